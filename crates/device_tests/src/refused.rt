@@ -58,7 +58,7 @@ const VT102: Player = Player::Vt(Profile::Vt102);
 const TODAY: Player = Player::Today(None);
 
 /// The table: each job that reads a recording, but for a page, whose text is long.
-pub(crate) fn cases() -> [Case<'static>; 18] {
+pub(crate) fn cases() -> [Case<'static>; 20] {
     [
         due(),
         info(),
@@ -74,6 +74,8 @@ pub(crate) fn cases() -> [Case<'static>; 18] {
         reports(),
         cast(),
         save(),
+        cut(),
+        excerpt(),
         redact(VT100),
         redact(TODAY),
         edited_session(VT100),
@@ -356,6 +358,52 @@ fn save() -> Case<'static> {
 #[test]
 fn run_save(rt: HostRuntime) -> Result<(), Fail> {
     compare(&rt, save())
+}
+
+/// The second chunk goes, and the state of a VT100 stands in its place.
+fn cut() -> Case<'static> {
+    let job = Job::Cut {
+        from: 500_000,
+        to: 1_000_000,
+        player: VT100,
+    };
+    let text = b"Script started on X\nab\x1b[6n\
+        \x1b<\x1bc\x1b[?3h\x1b[3g\x1b[1;9H\x1bH\x1b[1;17H\x1bH\x1b[1;25H\x1bH\x1b[1;33H\x1bH\x1b[1;41H\x1bH\x1b[1;49H\x1bH\x1b[1;57H\x1bH\x1b[1;65H\x1bH\x1b[1;73H\x1bH\x1b[1;81H\x1bH\x1b[1;89H\x1bH\x1b[1;97H\x1bH\x1b[1;105H\x1bH\x1b[1;113H\x1bH\x1b[1;121H\x1bH\x1b[1;129H\x1bH\x1b[?6l\x1b[?3l\x1b[?7l\x1b[0m\x1b(B\x1b)0\x0f\x1b[1;1Hab\x1b[3;1Hcd\x1b[1;24r\x1b[?7h\x1b[3;3H\x1b[0m\x1b(B\x1b)B\x0f\
+        \x1b[1;1He";
+    Case {
+        new_timing: b"0.500000 6\n0.000000 231\n0.500000 7\n",
+        ..plain_case(job, text)
+    }
+}
+
+#[test]
+fn run_cut(rt: HostRuntime) -> Result<(), Fail> {
+    compare(&rt, cut())
+}
+
+/// The last chunk is left, behind the state of a terminal of today of six columns and three lines.
+fn excerpt() -> Case<'static> {
+    let size = Measure {
+        columns: 6,
+        lines: 3,
+    };
+    let job = Job::Excerpt {
+        from: 1_000_000,
+        to: None,
+        player: Player::Today(Some(size)),
+    };
+    let text = b"Script started on X\n\
+        \x1bc\x1b[3g\x1b[?6l\x1b[0m\x1b(B\x1b)B\x0f\x1b[1;1Hab\x1b[3;1Hcd\x1b[0m\x1b[?1047h\x1b[?6l\x1b[0m\x1b(B\x1b)B\x0f\x1b[?1047l\x1b[1;3r\x1b[3;3H\x1b[0m\x1b(B\x1b)B\x0f\x1b>\
+        \x1b[1;1He";
+    Case {
+        new_timing: b"0.000000 99\n0.500000 7\n",
+        ..plain_case(job, text)
+    }
+}
+
+#[test]
+fn run_excerpt(rt: HostRuntime) -> Result<(), Fail> {
+    compare(&rt, excerpt())
 }
 
 /// A pair that is whole is mended as it is. The job takes pairs that are no recording, so it isn't in the table.

@@ -13,6 +13,8 @@ mod check;
 #[cfg(test)]
 mod comparison;
 #[cfg(test)]
+mod cuts;
+#[cfg(test)]
 mod find;
 #[cfg(test)]
 mod importing;
@@ -33,5 +35,7 @@ mod redact;
 mod run;
 #[cfg(test)]
 mod session;
+#[cfg(test)]
+mod state;
 #[cfg(test)]
 mod texts;

@@ -57,6 +57,18 @@ fn a_job_fault_has_the_text_of_its_fault(rt: HostRuntime) -> Result<(), Fail> {
         (JobFault::File(Fault::WriteFault), "write fault"),
         (JobFault::Compressed, "recording is compressed"),
         (JobFault::NoKnownForm, "recording of no known form"),
+        (
+            JobFault::Edit {
+                fault: EditFault::TooManyChunks,
+            },
+            "E4 TooManyChunks",
+        ),
+        (
+            JobFault::Edit {
+                fault: EditFault::TooManyBytes,
+            },
+            "E5 TooManyBytes",
+        ),
         (JobFault::Memory, "out of memory"),
     ];
     for (fault, wanted) in texts {

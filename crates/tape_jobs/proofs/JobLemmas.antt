@@ -24,7 +24,7 @@ use Rattle.tape_jobs.specs.declared.job.Ending.TheVariants.{Clean}
 use Rattle.command_line.specs.declared.job.Job.{Job}
 use Rattle.command_line.specs.declared.job.Job.TheVariants as jobs
 use Rattle.tape_jobs.specs.declared.job.JobFault.{JobFault}
-use Rattle.tape_jobs.specs.declared.job.JobFault.TheVariants.{File, Compressed, NoKnownForm, Refused, Line, Memory}
+use Rattle.tape_jobs.specs.declared.job.JobFault.TheVariants.{File, Compressed, NoKnownForm, Refused, Line, Edit, Memory}
 
 -- nothing of a text has gone out yet
 pub part_none : {T : Type 0} (contents : T → Option (List ℕ)) (a : Watched T) (text : List ℕ) → has_failed a ≡ false
@@ -152,6 +152,7 @@ refused_outcome job Compressed e = refl
 refused_outcome job NoKnownForm e = refl
 refused_outcome job (Refused r) e = refl
 refused_outcome job (Line line f) e = refl
+refused_outcome job (Edit f) e = refl
 refused_outcome job Memory e = absurd (cc)
 
 -- the writers of a job, before it writes

@@ -1,5 +1,6 @@
 mod ImportLemmas
 mod JobLemmas
+mod MakingLemmas
 mod MendLemmas
 mod NoteLemmas
 mod NowhereLemmas
@@ -7,5 +8,7 @@ mod RedactLemmas
 mod RefusalLemmas
 mod RequestLemmas
 mod SessionLemmas
+mod StateLemmas
 mod PlayerLemmas
 mod TellingLemmas
+mod UnseenLemmas

@@ -12,3 +12,4 @@ pub mod Session
 pub mod Setups
 pub mod Telling
 pub mod Texts
+pub mod Unseen

@@ -23,7 +23,11 @@ use Rattle.tape_redact.specs.Recording.{taken_out, without}
 use Rattle.tape_check.specs.declared.played.PlayedAs.TheVariants as played
 use Rattle.vt_term.specs.declared.profile.Profile.{Profile}
 use Rattle.vt_term.specs.declared.profile.Profile.TheVariants.{Vt100, Vt102}
+use Rattle.tape_seek.specs.declared.edits.Edit.{Edit}
 use Rattle.tape_seek.specs.declared.edits.EditFault.{EditFault}
+use Rattle.tape_seek.specs.declared.edits.EditFault.TheVariants as of_edit
+use Rattle.tape_cut.specs.CutEdits.{cut_edits, excerpt_edits}
+use Rattle.tape_jobs.specs.Moment.{state_at}
 use Rattle.tape_jobs.specs.Player.{found_of, played_of}
 use Rattle.command_line.specs.declared.player.Source.{Source}
 use Rattle.command_line.specs.declared.player.Source.TheVariants.{Pair}
@@ -34,15 +38,16 @@ use Rattle.tape_import.specs.declared.refusal.Refusal.TheVariants as refusal
 use Rattle.std.specs.Option.{option_map}
 use Rattle.command_line.specs.declared.player.Player.{Player}
 use Rattle.command_line.specs.declared.player.Player.TheVariants.{Vt, Today, Auto}
-use Rattle.tape_jobs.specs.Requests.{saved, started}
+use Rattle.tape_jobs.specs.Requests.{made_by, saved, started}
 use Rattle.tape_jobs.specs.Session.{answered, any_refused}
 use Rattle.tape_jobs.specs.Texts.{text_of}
 use Rattle.command_line.specs.declared.job.Job.{Job}
-use Rattle.command_line.specs.declared.job.Job.TheVariants.{Due, Info, Check, Find, Save, Mend, Import, Redact, Session}
+use Rattle.command_line.specs.declared.job.Job.TheVariants.{Due, Info, Check, Find, Save, Cut, Excerpt, Mend, Import, Redact, Session}
 use Rattle.tape_jobs.specs.declared.job.Ending.{Ending}
 use Rattle.tape_jobs.specs.declared.job.Ending.TheVariants.{Clean, WithRefusals, WithNotes, WithLosses, WithNothing, WithTraces}
 use Rattle.tape_jobs.specs.declared.job.JobFault.{JobFault}
 use Rattle.tape_jobs.specs.declared.job.JobFault.TheVariants.{File, Compressed, NoKnownForm, Refused, Line, Memory}
+use Rattle.tape_jobs.specs.declared.job.JobFault.TheVariants as of_job
 use Rattle.tape_jobs.specs.declared.job.Outcome.{Outcome}
 
 -- what a job is given: where the recording stands, the texts of its files, of which a recording of another form stands as
@@ -69,6 +74,8 @@ takes_requests _ = false
 -- whether a job writes a new timing (ours)
 abbrev pub writes_timing : Job → Bool
 writes_timing Save = true
+writes_timing (Cut from to player) = true
+writes_timing (Excerpt from to player) = true
 writes_timing (Mend how) = true
 writes_timing Import = true
 writes_timing (Redact player) = true
@@ -118,6 +125,38 @@ done_saving (Err refused) = refused_with (Line refused.0 refused.1)
 -- what `save` comes to on a recording and request lines (ours)
 abbrev pub saved_by : Tape → List ℕ → Done
 saved_by tape requests = done_saving (saved 1 (started (played.Vt Vt100) tape) (lines_of requests))
+
+-- why an edit is refused, as a fault of a job (ours)
+abbrev pub fault_of_edit : EditFault → JobFault
+fault_of_edit of_edit.OutOfMemory = Memory
+fault_of_edit f = of_job.Edit f
+
+-- what a job comes to that makes edits of its own: both files anew, or the fault of the first that is refused, with
+-- nothing written (ours)
+abbrev pub done_editing : Result Tape EditFault → Done
+done_editing (Ok tape) = done_with (script_text tape) (timing_text tape)
+done_editing (Err f) = refused_with (of_job.Edit f)
+
+-- by these edits of a recording, one after another (ours)
+abbrev pub done_by : List Edit → Tape → Done
+done_by edits tape = done_editing (made_by edits tape)
+
+-- the edits of `cut`: what is due after one moment and by another goes, and in its place stands the state of the terminal
+-- at the latter (ours)
+abbrev pub edits_of_cut : ℕ → ℕ → Player → Tape → List Edit
+edits_of_cut from to player tape = cut_edits from to (state_at (played_of player tape) tape to) tape
+
+-- those of `excerpt`: what is due after one moment, and by another if it is given, stays, behind the state of the terminal
+-- at the former (ours)
+abbrev pub edits_of_excerpt : ℕ → Option ℕ → Player → Tape → List Edit
+edits_of_excerpt from to player tape = excerpt_edits from to (state_at (played_of player tape) tape from) tape
+
+-- what both come to (ours)
+abbrev pub cut_by : ℕ → ℕ → Player → Tape → Done
+cut_by from to player tape = done_by (edits_of_cut from to player tape) tape
+
+abbrev pub excerpt_by : ℕ → Option ℕ → Player → Tape → Done
+excerpt_by from to player tape = done_by (edits_of_excerpt from to player tape) tape
 
 -- Private: how a job ends that only writes, where it is done (ours)
 abbrev pub clean_by : {A : Type 0} → Result A JobFault → Result Ending JobFault
@@ -221,7 +260,7 @@ done_redacting player text tape = record {
 
 -- what a job comes to on a recording, of which so many changes of size were left out, request lines and a text: what the
 -- recording says of itself and isn't played of it, where the text came to stand and where it went, both files anew, with
--- the edits or without the text, the answers to the lines, or else a text alone (ours)
+-- the edits, of a stretch or without the text, the answers to the lines, or else a text alone (ours)
 abbrev pub done_on : Job → Tape → ℕ → List ℕ → List ℕ → Done
 done_on (Check player) tape resizes requests text =
     let played = played_of player tape in
@@ -230,6 +269,8 @@ done_on (Find from to player) tape resizes requests text =
     let lines = found_of (played_of player tape) tape from to text in
     done_ending lines (ending_of_find (is_some_text lines))
 done_on Save tape resizes requests text = saved_by tape requests
+done_on (Cut from to player) tape resizes requests text = cut_by from to player tape
+done_on (Excerpt from to player) tape resizes requests text = excerpt_by from to player tape
 done_on (Mend how) tape resizes requests text = done_with (script_text tape) (timing_text tape)
 done_on Import tape resizes requests text = done_with (script_text tape) (timing_text tape)
 done_on (Redact player) tape resizes requests text = done_redacting player text tape
@@ -336,6 +377,7 @@ is_stopped (Some NoKnownForm) = false
 is_stopped (Some (Refused r)) = false
 is_stopped (Some Memory) = true
 is_stopped (Some (Line line f)) = false
+is_stopped (Some (of_job.Edit f)) = false
 
 -- the status of the program where a job is done (ours)
 abbrev pub IsDoneStatus : Job → ℕ → Type 0
@@ -355,6 +397,7 @@ status_of NoKnownForm = 1
 status_of (Refused r) = 1
 status_of Memory = 3
 status_of (Line line f) = 1
+status_of (of_job.Edit f) = 1
 
 -- the same of this job (ours)
 abbrev pub status_in : Job → JobFault → ℕ

@@ -1,7 +1,8 @@
--- What edits from request lines come to over a recording, and why one is refused.
+-- What edits come to over a recording, from request lines or of a job's own, and why one is refused.
 use Rattle.std.specs.Prelude.{◌≡◌, ℕ, ◌+◌, ◌++◌, List, [], ◌∷◌, Option, Some, None, Result, Ok, Err, codes}
 use Rattle.tape_core.specs.Tape.{Tape}
-use Rattle.tape_seek.specs.Edits.{edit_fault, edited}
+use Rattle.tape_cut.specs.CutEdits.{first_fault}
+use Rattle.tape_seek.specs.Edits.{edit_fault, edited, edited_all}
 use Rattle.tape_seek.specs.Requests.{request}
 use Rattle.tape_seek.specs.State.{StateOf}
 use Rattle.tape_seek.specs.declared.edits.Edit.{Edit}
@@ -11,6 +12,7 @@ use Rattle.tape_seek.specs.declared.requests.Request.{Request}
 use Rattle.tape_seek.specs.declared.requests.Request.TheVariants as asks
 use Rattle.tape_jobs.specs.declared.job.JobFault.{JobFault}
 use Rattle.tape_jobs.specs.declared.job.JobFault.TheVariants.{File, Compressed, NoKnownForm, Refused, Line, Memory}
+use Rattle.tape_jobs.specs.declared.job.JobFault.TheVariants as of_job
 use Rattle.tape_check.specs.declared.played.PlayedAs.{PlayedAs}
 
 -- where request lines have led: which terminal plays, the recording as edited, and the accepted edits in order. It is a
@@ -72,7 +74,27 @@ StopsEditing saving Compressed = ⊥
 StopsEditing saving NoKnownForm = ⊥
 StopsEditing saving (Refused r) = ⊥
 StopsEditing saving (Line line f) = saving ≡ Err (line, f)
+StopsEditing saving (of_job.Edit f) = ⊥
 StopsEditing saving Memory = Unit {0}
+
+-- the recording that edits make, where none of them has a fault, or the first fault (ours)
+abbrev pub unless_faulty : Option EditFault → Tape → Result Tape EditFault
+unless_faulty None tape = Ok tape
+unless_faulty (Some f) tape = Err f
+
+-- what edits make of a recording that are made one after another, or why the first is refused that has a fault (ours)
+abbrev pub made_by : List Edit → Tape → Result Tape EditFault
+made_by edits tape = unless_faulty (first_fault tape edits) (edited_all tape edits)
+
+-- Private: the fault of a job whose own edits aren't all made: that of the first that is refused, or want of memory (ours)
+abbrev pub StopsMaking : Result Tape EditFault → JobFault → Type 0
+StopsMaking making (File f) = ⊥
+StopsMaking making Compressed = ⊥
+StopsMaking making NoKnownForm = ⊥
+StopsMaking making (Refused r) = ⊥
+StopsMaking making (Line line f) = ⊥
+StopsMaking making (of_job.Edit f) = making ≡ Err f
+StopsMaking making Memory = Unit {0}
 
 -- the code and the name of a fault (ours)
 unfoldable pub fault_name : EditFault → List ℕ

@@ -12,7 +12,7 @@ use Rattle.xterm_term.specs.Term.{reset_term}
 use Rattle.xterm_transcript.specs.Rows.{all_rows}
 use Rattle.xterm_transcript.specs.Transcribed.{Transcribed, left, play_on}
 use Rattle.command_line.specs.declared.job.Job.{Job}
-use Rattle.command_line.specs.declared.job.Job.TheVariants.{Due, Info, Check, Screen, Picture, Transcript, Changes, Find, Reports, Page, Cast, Save, Mend, Import, Redact, Session}
+use Rattle.command_line.specs.declared.job.Job.TheVariants.{Due, Info, Check, Screen, Picture, Transcript, Changes, Find, Reports, Page, Cast, Save, Cut, Excerpt, Mend, Import, Redact, Session}
 use Rattle.command_line.specs.declared.player.Measure.{Measure}
 use Rattle.tape_check.specs.declared.played.PlayedAs.{PlayedAs}
 use Rattle.tape_check.specs.declared.played.PlayedAs.TheVariants.{Vt, Today}
@@ -67,6 +67,8 @@ abbrev pub only_writes : Job → Bool
 only_writes (Check player) = false
 only_writes (Find from to player) = false
 only_writes Save = false
+only_writes (Cut from to player) = false
+only_writes (Excerpt from to player) = false
 only_writes (Mend how) = false
 only_writes Import = false
 only_writes (Redact player) = false

@@ -17,6 +17,8 @@ pub enum Asked {
     Screen,
     /// The screen as a text that draws it again.
     Escaped,
+    /// All that the terminal is, as a text that makes any terminal like it the same.
+    State,
     /// The screen as a picture.
     Picture,
     /// All that the terminal has sent.

@@ -16,6 +16,7 @@ ghost use Rattle.tape_jobs.specs.Output.{TakesMemory, answers_by_status, clean_b
 mod cast;
 mod changes;
 mod check;
+mod cut;
 mod due;
 mod find;
 pub mod import;
@@ -35,6 +36,7 @@ use changes::write_changes;
 use check::write_checked;
 use chunk_walk::WalkFault;
 use command_line::{Job, Player, Print};
+use cut::{write_cut, write_excerpt};
 use due::write_due;
 use find::write_found;
 use import::{read_imported, write_imported};
@@ -113,6 +115,9 @@ pub enum JobFault {
     /// A request line was refused: its number, counted from 1 with the blank ones, and why.
     #[error("request line {line}: {}", name_of(*fault))]
     Line { line: u64, fault: EditFault },
+    /// An edit of a cut or an excerpt was refused, which was not for want of memory.
+    #[error("{}", name_of(*fault))]
+    Edit { fault: EditFault },
     /// Memory was refused once the recording was read.
     #[error("out of memory")]
     Memory,
@@ -154,6 +159,20 @@ impl From<Refusal> for JobFault {
         match refusal {
             Refusal::Form(fault) => JobFault::from(fault),
             Refusal::Event(..) | Refusal::Ends(_) => JobFault::Refused(refusal),
+        }
+    }
+}
+
+impl From<EditFault> for JobFault {
+    ghost use Rattle.std.specs.Prelude.{◌≡◌};
+    ghost use Rattle.tape_jobs.specs.Output.{fault_of_edit};
+
+    ghost from_gives = { λ refused fault. fault ≡ fault_of_edit refused };
+
+    fn from(fault: EditFault) -> JobFault {
+        match fault {
+            EditFault::OutOfMemory => JobFault::Memory,
+            fault => JobFault::Edit { fault },
         }
     }
 }
@@ -218,7 +237,7 @@ impl JobFault {
     {
         match self {
             JobFault::File(Fault::OutOfMemory | Fault::ReadFault | Fault::WriteFault) => 3,
-            JobFault::File(_) | JobFault::Line { .. } => 1,
+            JobFault::File(_) | JobFault::Line { .. } | JobFault::Edit { .. } => 1,
             JobFault::Compressed | JobFault::NoKnownForm | JobFault::Refused(_) => 1,
             JobFault::Memory => 3,
         }
@@ -412,6 +431,12 @@ fn perform<O: Write, P: Write>(
             write_found(alloc, recording, player, from, to, text, out)
         }
         Job::Save => write_edited(alloc, recording, &requests, out, out_timing),
+        Job::Cut { from, to, player } => {
+            write_cut(alloc, recording, player, from, to, out, out_timing)
+        }
+        Job::Excerpt { from, to, player } => {
+            write_excerpt(alloc, recording, player, from, to, out, out_timing)
+        }
         Job::Redact { player } => write_redacted(alloc, recording, player, text, out, out_timing),
         Job::Session { every, player } => {
             write_answers(alloc, recording, player, every, &requests, out)
@@ -429,6 +454,8 @@ fn only_writes(job: Job) -> bool
         Job::Check { .. }
             | Job::Find { .. }
             | Job::Save
+            | Job::Cut { .. }
+            | Job::Excerpt { .. }
             | Job::Mend { .. }
             | Job::Import
             | Job::Redact { .. }

@@ -11,6 +11,7 @@ use tape_seek::Session;
 use xterm_escaped::escaped;
 use xterm_picture::picture;
 use xterm_print::{changes, find, plain, seek};
+use xterm_state::state;
 use xterm_term::Terminal;
 
 impl Answers for Terminal {
@@ -18,7 +19,7 @@ impl Answers for Terminal {
 
     ghost played = { λ size. Today size.columns size.lines };
 
-    #[tactic(auto, unfolding(crate::specs::Moment::drawn_at, crate::specs::Moment::escaped_at, crate::specs::Moment::plain_at, crate::specs::Moment::sent_at))]
+    #[tactic(auto, using(crate::proofs::StateLemmas::state_of_today), unfolding(crate::specs::Moment::drawn_at, crate::specs::Moment::escaped_at, crate::specs::Moment::plain_at, crate::specs::Moment::sent_at, crate::specs::Moment::state_at))]
     fn put_answer<O: Write>(
         session: &mut Session<Terminal>,
         question: Question,
@@ -28,6 +29,7 @@ impl Answers for Terminal {
         match question.asked {
             Asked::Screen => plain(view.terminal(), out)?,
             Asked::Escaped => escaped(view.terminal(), out)?,
+            Asked::State => state(view.terminal(), out)?,
             Asked::Picture => picture(view.terminal(), question.at.min(LAST_MOMENT), out)?,
             Asked::Reports => put_hex_line(view.reports(), out)?,
         }

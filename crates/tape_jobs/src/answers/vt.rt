@@ -5,6 +5,7 @@ use crate::job::JobFault;
 use crate::shared::put_hex_line;
 use screen_picture::picture;
 use screen_print::{changes, escaped, find, plain};
+use screen_state::state;
 use std::alloc::Global;
 use std::io::Write;
 use tape_core::Watched;
@@ -17,7 +18,7 @@ impl Answers for Terminal {
 
     ghost played = { λ profile. Vt profile };
 
-    #[tactic(auto, unfolding(crate::specs::Moment::drawn_at, crate::specs::Moment::escaped_at, crate::specs::Moment::plain_at, crate::specs::Moment::screen_text, crate::specs::Moment::sent_at))]
+    #[tactic(auto, using(crate::proofs::StateLemmas::state_of_vt), unfolding(crate::specs::Moment::drawn_at, crate::specs::Moment::escaped_at, crate::specs::Moment::plain_at, crate::specs::Moment::screen_text, crate::specs::Moment::sent_at, crate::specs::Moment::state_at))]
     fn put_answer<O: Write>(
         session: &mut Session,
         question: Question,
@@ -27,6 +28,7 @@ impl Answers for Terminal {
         match question.asked {
             Asked::Screen => plain(view.terminal(), out)?,
             Asked::Escaped => escaped(view.terminal(), out)?,
+            Asked::State => state(view.terminal(), out)?,
             Asked::Picture => picture(view.terminal(), question.at.min(LAST_MOMENT), out)?,
             Asked::Reports => put_hex_line(view.reports(), out)?,
         }

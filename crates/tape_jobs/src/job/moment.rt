@@ -38,6 +38,10 @@ pub fn write_screen<O: Write>(
             let asked = Asked::Escaped;
             write_answer(alloc, recording, player, Question { asked, at }, out)
         }
+        Print::State(player) => {
+            let asked = Asked::State;
+            write_answer(alloc, recording, player, Question { asked, at }, out)
+        }
     }
 }
 
