@@ -1,2 +1,1 @@
-mod BeginningLemmas
 mod RunLemmas

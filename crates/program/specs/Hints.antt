@@ -7,9 +7,9 @@ use Rattle.command_line.specs.declared.job.Job.{Job}
 use Rattle.command_line.specs.declared.job.Job.TheVariants as jobs
 use Rattle.tape_jobs.specs.declared.job.JobFault.{JobFault}
 use Rattle.tape_jobs.specs.declared.job.JobFault.TheVariants as of_job
-use Rattle.program.specs.Beginning.{is_compressed, is_empty, is_started, is_streams, is_typescript}
-use Rattle.program.specs.declared.beginning.Beginning.{Beginning}
-use Rattle.program.specs.declared.beginning.Beginnings.{Beginnings}
+use Rattle.job_files.specs.Beginning.{is_compressed, is_empty, is_started, is_streams, is_typescript}
+use Rattle.job_files.specs.declared.beginning.Beginning.{Beginning}
+use Rattle.job_files.specs.declared.beginning.Beginnings.{Beginnings}
 use Rattle.program.specs.declared.hints.Device.{Device}
 use Rattle.program.specs.declared.hints.Hint.{Hint}
 use Rattle.program.specs.declared.run.Stop.{Stop}

@@ -1,12 +1,13 @@
 -- The statuses of the program.
-use Rattle.std.specs.Prelude.{◌≡◌, ◌⊎◌, ◌++◌, ℕ, Bool, true, false, List, MatchOption, codes, string_bytes, if◌then◌else◌}
+use Rattle.std.specs.Prelude.{◌≡◌, ℕ, MatchOption}
 use Rattle.clap.specs.Words.{kind_of}
 use Rattle.clap.specs.declared.error.ErrorKind.{ErrorKind}
 use Rattle.clap.specs.declared.error.ErrorKind.TheVariants.{DisplayHelp, DisplayVersion}
 use Rattle.tape_jobs.specs.Output.{Comes, Done, Files, IsDoneStatus, status_in, status_of}
 use Rattle.command_line.specs.declared.job.Job.{Job}
 use Rattle.tape_jobs.specs.declared.job.Outcome.{Outcome}
-use Rattle.program.specs.Cleaning.{cleaned}
+use Rattle.job_files.specs.declared.stop.FileStop.{FileStop}
+use Rattle.job_files.specs.declared.stop.FileStop.TheVariants as file_stop
 use Rattle.program.specs.declared.run.Stop.{Stop}
 use Rattle.program.specs.declared.run.Stop.TheVariants.{Words, NotText, Memory, CannotOpen, CannotCreate, Job as of_job}
 use Rattle.command_line.specs.declared.words.WordsFault.TheVariants as words
@@ -43,29 +44,8 @@ IsOutcome job outcome = MatchOption outcome.fault (IsDoneStatus job outcome.stat
 abbrev pub IsAnswer : Job → Files → Outcome → Type 0
 IsAnswer job files outcome = (done : Done) × Comes job files done × (outcome ≡ done.outcome)
 
--- why a file isn't open: the file of this path can't be opened, or memory was refused (ours)
-abbrev pub IsNotOpen : List ℕ → Stop → Type 0
-IsNotOpen path (CannotOpen name error) = string_bytes name ≡ cleaned path
-IsNotOpen path Memory = Unit {0}
-IsNotOpen path (CannotCreate name error) = ⊥
-IsNotOpen path (Words fault) = ⊥
-IsNotOpen path NotText = ⊥
-IsNotOpen path (of_job fault) = ⊥
-
--- why a file isn't created: none of this path can be created, or memory was refused (ours)
-abbrev pub IsNotCreated : List ℕ → Stop → Type 0
-IsNotCreated path (CannotCreate name error) = string_bytes name ≡ cleaned path
-IsNotCreated path Memory = Unit {0}
-IsNotCreated path (CannotOpen name error) = ⊥
-IsNotCreated path (Words fault) = ⊥
-IsNotCreated path NotText = ⊥
-IsNotCreated path (of_job fault) = ⊥
-
--- the path of the file beside a new one (ours)
-abbrev pub part_of : List ℕ → List ℕ
-part_of path = path ++ codes ".part"
-
--- why the new files aren't created: one of them can't be, or a file beside them (ours)
-abbrev pub IsNoPair : List ℕ → List ℕ → Stop → Type 0
-IsNoPair script timing stop = IsNotCreated script stop ⊎ (IsNotCreated timing stop
-    ⊎ (IsNotCreated (part_of script) stop ⊎ IsNotCreated (part_of timing) stop))
+-- why there are no files, as a stop of the program (ours)
+abbrev pub stop_of_files : FileStop → Stop
+stop_of_files file_stop.Memory = Memory
+stop_of_files (file_stop.CannotOpen path error) = CannotOpen path error
+stop_of_files (file_stop.CannotCreate path error) = CannotCreate path error

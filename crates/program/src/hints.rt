@@ -3,9 +3,8 @@
 ghost use Rattle.std.specs.Prelude.{◌≡◌};
 ghost use Rattle.program.specs.Hints.{device_of, hint_after, hint_at_end, hint_of_form, hint_of_mend, hint_of_pair, is_of_line_one};
 
-use crate::beginning::{Beginning, Beginnings};
-use crate::cleaning::cleaned;
 use command_line::Job;
+use job_files::{Beginning, Beginnings, cleaned};
 use std::alloc::{AllocError, Global};
 use std::io::ErrorKind;
 use std::{fmt, io};

@@ -5,12 +5,12 @@ ghost use Rattle.clap.specs.Words.{kind_of};
 ghost use Rattle.program.specs.Hints.{hint_of_stop};
 ghost use Rattle.program.specs.Program.{IsOutcome, stop_status};
 
-use crate::cleaning::cleaned_words;
 use crate::hints::{Device, Hint, tell_hint};
 use crate::note::tell_note;
 use crate::running::{Ended, open_and_run};
 use clap::error::ErrorKind;
 use command_line::{Job, WordsFault, read_words};
+use job_files::{FileStop, cleaned_words};
 use std::alloc::AllocError;
 use std::rt::{Env, Files};
 use std::{env, io};
@@ -45,6 +45,21 @@ impl From<AllocError> for Stop {
 
     fn from(_refused: AllocError) -> Stop {
         Stop::Memory
+    }
+}
+
+impl From<FileStop> for Stop {
+    ghost use Rattle.std.specs.Prelude.{◌≡◌};
+    ghost use Rattle.program.specs.Program.{stop_of_files};
+
+    ghost from_gives = { λ stop made. made ≡ stop_of_files stop };
+
+    fn from(stop: FileStop) -> Stop {
+        match stop {
+            FileStop::Memory => Stop::Memory,
+            FileStop::CannotOpen(path, error) => Stop::CannotOpen(path, error),
+            FileStop::CannotCreate(path, error) => Stop::CannotCreate(path, error),
+        }
     }
 }
 

@@ -7,16 +7,16 @@ ghost use Rattle.tape_jobs.specs.Endings.{HoldFiles, readers_of, used};
 ghost use Rattle.tape_jobs.specs.Output.{Files as Given, is_stopped, remakes};
 ghost use Rattle.command_line.specs.declared.player.Source.TheVariants as stands;
 ghost use Rattle.command_line.specs.declared.player.Source.TheVariants.{Pair};
-ghost use Rattle.program.specs.Beginning.{remaining_of};
+ghost use Rattle.job_files.specs.Beginning.{remaining_of};
 ghost use Rattle.program.specs.Program.{IsAnswer, IsOutcome, stop_status};
 
-use crate::beginning::{Beginnings, Begun, Sources, watched};
-use crate::devices::{Outlet, buffered, released};
-use crate::files::open;
 use crate::hints::{Device, Hint, first_failed, hint_at_end};
-use crate::pair::{New, NewPair, create_pair};
 use crate::run::Stop;
 use command_line::{Job, Player, Source, Words};
+use job_files::{
+    Beginnings, Begun, New, NewPair, Outlet, Sources, buffered, create_pair, open, released,
+    watched,
+};
 use std::io;
 use std::rt::Files;
 use tape_core::{Fault, Watched};
@@ -344,7 +344,7 @@ fn mend_into<R: Files + Print + AllocGlobal>(
         Ok(told) => told,
         Err(stop) => {
             pair.give_up(rt);
-            return Err(stop);
+            return Err(Stop::from(stop));
         }
     };
     let NewPair {
@@ -397,7 +397,7 @@ fn import_into<R: Files + Print + AllocGlobal>(
         Ok(told) => told,
         Err(stop) => {
             pair.give_up(rt);
-            return Err(stop);
+            return Err(Stop::from(stop));
         }
     };
     let NewPair {
@@ -451,7 +451,7 @@ fn redact_into<R: Files + Print + AllocGlobal>(
         Ok(found) => found,
         Err(stop) => {
             pair.give_up(rt);
-            return Err(stop);
+            return Err(Stop::from(stop));
         }
     };
     let mut told = Watched::new(Outlet::new(io::writer(rt)));

@@ -5,10 +5,10 @@
 -- is sure to outlast the machine once its directory is synced, and may do so before; what a file holds is sure to, if it
 -- was synced before. rename(2), fsync(2).
 use Rattle.std.specs.Prelude.{Bool, true, false, List, [], ◌∷◌, ◌&&◌, ◌||◌, not}
-use Rattle.program.specs.declared.pair.New.{New}
-use Rattle.program.specs.declared.pair.New.TheVariants.{Script, Timing}
-use Rattle.program.specs.declared.pair.Step.{Step}
-use Rattle.program.specs.declared.pair.Step.TheVariants.{Sync, Rename, SyncName}
+use Rattle.job_files.specs.declared.pair.New.{New}
+use Rattle.job_files.specs.declared.pair.New.TheVariants.{Script, Timing}
+use Rattle.job_files.specs.declared.pair.Step.{Step}
+use Rattle.job_files.specs.declared.pair.Step.TheVariants.{Sync, Rename, SyncName}
 
 -- what was done for a new file: what was written for it is on the disk; it has its name; that is on the disk; it got
 -- its name before what was written for it was on the disk (ours)

@@ -5,12 +5,12 @@
 
 ghost use Rattle.std.specs.Prelude.{◌≡◌, IfErr, IfOk, false, true};
 ghost use Rattle.tape_core.specs.Devices.{has_failed};
-ghost use Rattle.program.specs.Pair.{is_in_place, is_safe};
-ghost use Rattle.program.specs.Program.{IsNoPair, IsNotCreated, part_of};
+ghost use Rattle.job_files.specs.Pair.{is_in_place, is_safe};
+ghost use Rattle.job_files.specs.Opening.{IsNoPair, IsNotCreated, part_of};
 
 use crate::devices::{buffered, released};
 use crate::files::{create, create_private, mode_of, part_of};
-use crate::run::Stop;
+use crate::stop::FileStop;
 use std::fs::{OpenFile, Permissions};
 use std::io::BufWriter;
 use std::os::unix::fs::PermissionsExt;
@@ -91,7 +91,7 @@ pub fn create_pair<'a, R: Files + AllocGlobal>(
     rt: &R,
     paths: (&'a str, &'a str),
     old: (&R::File, &R::File),
-) -> Result<NewPair<'a, R::File>, Stop>
+) -> Result<NewPair<'a, R::File>, FileStop>
     ensures sound { IfOk result (λ pair. (has_failed pair.script.out ≡ false)
         × (has_failed pair.timing.out ≡ false)) }
     ensures stop { IfErr result (IsNoPair paths.entry.0.now paths.entry.1.now) }
@@ -113,7 +113,7 @@ fn create_file<'a, R: Files + AllocGlobal>(
     rt: &R,
     path: &'a str,
     mode: u32,
-) -> Result<NewFile<'a, R::File>, Stop>
+) -> Result<NewFile<'a, R::File>, FileStop>
     ensures sound { IfOk result (λ new. has_failed new.out ≡ false) }
     ensures stop { IfErr result (IsNotCreated (part_of path.entry.now)) }
 {

@@ -1,7 +1,7 @@
 use Rattle.std.proofs.Common.{rules}
 use Rattle.std.proofs.lemmas.Iterator.{YieldsList-from_chars, YieldsList-from_map, text_from_collect}
-use Rattle.program.specs.Cleaning.{shown}
-use Rattle.program.proofs.cleaning.cleaned.Goals as goal
+use Rattle.job_files.specs.Cleaning.{shown}
+use Rattle.job_files.proofs.cleaning.cleaned.Goals as goal
 
 pub returns : goal.returns
 returns c =

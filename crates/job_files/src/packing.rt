@@ -1,7 +1,7 @@
 //! The bytes with which a compressed file begins, as they come.
 
 ghost use Rattle.std.specs.Prelude.{◌≡◌};
-ghost use Rattle.program.specs.Beginning.{is_packed, is_past, magic_of, packer_of, packing_after};
+ghost use Rattle.job_files.specs.Beginning.{is_packed, is_past, magic_of, packer_of, packing_after};
 
 /// What writes compressed files.
 #[derive(Clone, Copy, Debug, PartialEq, Eq)]

@@ -1,7 +1,7 @@
 use Rattle.std.proofs.Common.{◌≡◌, length}
 use Rattle.std.specs.Prelude.{fold}
-use Rattle.program.specs.Beginning.{after_byte}
-use Rattle.program.proofs.beginning.Beginning.after.Given as goal
+use Rattle.job_files.specs.Beginning.{after_byte}
+use Rattle.job_files.proofs.beginning.Beginning.after.Given as goal
 
 -- what the bytes that are left make of it is what all of them make of the first one
 abbrev pub invariant-loop-rest : goal.invariant-loop-rest

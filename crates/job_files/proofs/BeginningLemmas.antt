@@ -3,12 +3,12 @@ use Rattle.std.proofs.Common.{◌≡◌, ℕ, ◌+◌, ◌==◌, Bool, true, fal
 use Rattle.std.proofs.lemmas.Bool.Decides.{nat_tests}
 use Rattle.std.proofs.lemmas.List.Folds.{fold_stays}
 use Rattle.std.specs.Prelude.{fold}
-use Rattle.program.specs.Beginning.{after_byte, is_all, is_past, is_settled, is_whole, magic_of, packing_after}
-use Rattle.program.specs.declared.beginning.Beginning.{Beginning}
-use Rattle.program.specs.declared.beginning.FirstField.{FirstField}
-use Rattle.program.specs.declared.beginning.FirstField.TheVariants.{Awaited, Letter, Stream, Other}
-use Rattle.program.specs.declared.packing.Packing.{Packing}
-use Rattle.program.specs.declared.packing.Packing.TheVariants as packing
+use Rattle.job_files.specs.Beginning.{after_byte, is_all, is_past, is_settled, is_whole, magic_of, packing_after}
+use Rattle.job_files.specs.declared.beginning.Beginning.{Beginning}
+use Rattle.job_files.specs.declared.beginning.FirstField.{FirstField}
+use Rattle.job_files.specs.declared.beginning.FirstField.TheVariants.{Awaited, Letter, Stream, Other}
+use Rattle.job_files.specs.declared.packing.Packing.{Packing}
+use Rattle.job_files.specs.declared.packing.Packing.TheVariants as packing
 
 abbrev of_parts : Bool → Option ℕ → Bool → Packing → FirstField → Beginning
 of_parts e s t p f = record { empty = e; session = s; started = t; packing = p; first = f }

@@ -2,7 +2,7 @@
 
 ghost use Rattle.std.specs.Prelude.{◌≡◌, false, fold};
 ghost use Rattle.tape_core.specs.Devices.{has_failed};
-ghost use Rattle.program.specs.Beginning.{after_byte, field_after, is_compressed, is_empty, is_settled, is_started, is_streams, is_two_words, is_typescript, nothing, remaining_of, session_after};
+ghost use Rattle.job_files.specs.Beginning.{after_byte, field_after, is_compressed, is_empty, is_settled, is_started, is_streams, is_two_words, is_typescript, nothing, remaining_of, session_after};
 
 use crate::packing::Packing;
 use std::io;

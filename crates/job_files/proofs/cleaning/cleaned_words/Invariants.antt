@@ -1,6 +1,6 @@
 use Rattle.std.proofs.Common.{◌≡◌, map, take, string_bytes}
-use Rattle.program.specs.Cleaning.{cleaned}
-use Rattle.program.proofs.cleaning.cleaned_words.Given as goal
+use Rattle.job_files.specs.Cleaning.{cleaned}
+use Rattle.job_files.proofs.cleaning.cleaned_words.Given as goal
 
 -- the words so far are cleaned
 abbrev pub invariant-loop-word : goal.invariant-loop-word

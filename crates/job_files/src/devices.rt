@@ -3,7 +3,7 @@
 ghost use Rattle.std.specs.Prelude.{◌≡◌, IfErr, IfOk, false};
 ghost use Rattle.tape_core.specs.Devices.{has_failed, has_written};
 
-use crate::run::Stop;
+use crate::stop::FileStop;
 use std::io;
 use std::io::{BufWriter, ErrorKind, Write};
 use tape_core::Watched;
@@ -15,14 +15,14 @@ const HELD_BACK: usize = 65536;
 pub fn buffered<R: AllocGlobal, W: Write + Drop>(
     rt: &R,
     writer: W,
-) -> Result<Watched<BufWriter<W>>, Stop>
+) -> Result<Watched<BufWriter<W>>, FileStop>
     ensures sound { IfOk result (λ out. has_failed out ≡ false) }
     ensures unwritten { IfOk result (λ out. has_written out ≡ false) }
-    ensures stop { IfErr result (λ stop. stop ≡ Stop.Memory) }
+    ensures stop { IfErr result (λ stop. stop ≡ FileStop.Memory) }
 {
     match BufWriter::with_capacity(rt.alloc(), HELD_BACK, writer) {
         Ok(writer) => Ok(Watched::new(writer)),
-        Err(_) => Err(Stop::Memory),
+        Err(_) => Err(FileStop::Memory),
     }
 }
 

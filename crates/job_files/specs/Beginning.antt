@@ -1,13 +1,13 @@
 -- What a text begins with, as far as a hint depends on it.
 use Rattle.std.specs.Prelude.{◌==◌, ◌+◌, ℕ, Bool, true, false, List, Option, Some, None, cond, ◌&&◌, ◌||◌, not, nat_lt, slice_index, codes, is_none, [], ◌∷◌, length, if◌then◌else◌}
-use Rattle.program.specs.declared.beginning.Beginning.{Beginning}
-use Rattle.program.specs.declared.beginning.Begun.{Begun}
-use Rattle.program.specs.declared.beginning.FirstField.{FirstField}
-use Rattle.program.specs.declared.beginning.FirstField.TheVariants.{Awaited, Letter, Stream, Other}
-use Rattle.program.specs.declared.packing.Packer.{Packer}
-use Rattle.program.specs.declared.packing.Packer.TheVariants.{Gzip, Bzip2, Xz, Zstd}
-use Rattle.program.specs.declared.packing.Packing.{Packing}
-use Rattle.program.specs.declared.packing.Packing.TheVariants as packing
+use Rattle.job_files.specs.declared.beginning.Beginning.{Beginning}
+use Rattle.job_files.specs.declared.beginning.Begun.{Begun}
+use Rattle.job_files.specs.declared.beginning.FirstField.{FirstField}
+use Rattle.job_files.specs.declared.beginning.FirstField.TheVariants.{Awaited, Letter, Stream, Other}
+use Rattle.job_files.specs.declared.packing.Packer.{Packer}
+use Rattle.job_files.specs.declared.packing.Packer.TheVariants.{Gzip, Bzip2, Xz, Zstd}
+use Rattle.job_files.specs.declared.packing.Packing.{Packing}
+use Rattle.job_files.specs.declared.packing.Packing.TheVariants as packing
 
 -- the bytes with which a typescript begins. script(1)
 abbrev pub session : List ℕ

@@ -2,10 +2,10 @@
 
 ghost use Rattle.std.specs.Prelude.{◌≡◌, IfErr, IfOk, bit_and, string_bytes};
 ghost use Rattle.std.specs.Fs.{metadata_mode};
-ghost use Rattle.program.specs.Program.{IsNotCreated, IsNotOpen, part_of};
+ghost use Rattle.job_files.specs.Opening.{IsNotCreated, IsNotOpen, part_of};
 
 use crate::cleaning::cleaned;
-use crate::run::Stop;
+use crate::stop::FileStop;
 use std::alloc::AllocError;
 use std::fs;
 use std::fs::{Metadata, OpenFile, OpenOptions};
@@ -16,24 +16,24 @@ use std::rt::Files;
 const PRIVATE: u32 = 0o600;
 
 /// Opens a file to be read.
-pub fn open<R: Files + AllocGlobal>(rt: &R, path: &str) -> Result<R::File, Stop>
+pub fn open<R: Files + AllocGlobal>(rt: &R, path: &str) -> Result<R::File, FileStop>
     ensures { IfErr result (IsNotOpen path.now) }
 {
     match fs::open(rt, path) {
         Ok(file) => Ok(file),
-        Err(error) => Err(Stop::CannotOpen(cleaned(rt.alloc(), path)?, error)),
+        Err(error) => Err(FileStop::CannotOpen(cleaned(rt.alloc(), path)?, error)),
     }
 }
 
 /// Creates a file to be written. Where there is one of this name, it stays as it is.
-pub fn create<R: Files + AllocGlobal>(rt: &R, path: &str) -> Result<R::File, Stop>
+pub fn create<R: Files + AllocGlobal>(rt: &R, path: &str) -> Result<R::File, FileStop>
     ensures { IfErr result (IsNotCreated path.now) }
 {
     create_by(rt, &mut OpenOptions::new(), path)
 }
 
 /// The same, of a file that its owner alone may use.
-pub fn create_private<R: Files + AllocGlobal>(rt: &R, path: &str) -> Result<R::File, Stop>
+pub fn create_private<R: Files + AllocGlobal>(rt: &R, path: &str) -> Result<R::File, FileStop>
     ensures { IfErr result (IsNotCreated path.now) }
 {
     create_by(rt, OpenOptions::new().mode(PRIVATE), path)
@@ -44,12 +44,12 @@ fn create_by<R: Files + AllocGlobal>(
     rt: &R,
     options: &mut OpenOptions,
     path: &str,
-) -> Result<R::File, Stop>
+) -> Result<R::File, FileStop>
     ensures { IfErr result (IsNotCreated path.now) }
 {
     match options.write(true).create_new(true).open(rt, path) {
         Ok(file) => Ok(file),
-        Err(error) => Err(Stop::CannotCreate(cleaned(rt.alloc(), path)?, error)),
+        Err(error) => Err(FileStop::CannotCreate(cleaned(rt.alloc(), path)?, error)),
     }
 }
 

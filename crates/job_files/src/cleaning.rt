@@ -1,7 +1,7 @@
 //! What comes from outside, as it is written to standard error.
 
 ghost use Rattle.std.specs.Prelude.{◌≡◌, IfOk, map, string_bytes};
-ghost use Rattle.program.specs.Cleaning.{cleaned, shown};
+ghost use Rattle.job_files.specs.Cleaning.{cleaned, shown};
 
 use std::alloc::{AllocError, Global};
 

@@ -1,0 +1,4 @@
+pub mod Beginning
+pub mod Cleaning
+pub mod Opening
+pub mod Pair
