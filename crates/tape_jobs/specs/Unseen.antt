@@ -1,5 +1,5 @@
 -- What `cut` and `excerpt` make of a recording doesn't show, whichever terminal plays it (ours).
-use Rattle.std.specs.Prelude.{◌≡◌, ℕ, ◌<◌, List, Option}
+use Rattle.std.specs.Prelude.{◌≡◌, ℕ, ◌<◌, Option}
 use Rattle.command_line.specs.declared.player.Player.{Player}
 use Rattle.tape_check.specs.declared.played.PlayedAs.{PlayedAs}
 use Rattle.tape_check.specs.declared.played.PlayedAs.TheVariants as played
