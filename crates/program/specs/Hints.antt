@@ -51,8 +51,8 @@ forms_in job = hint.Forms
 abbrev pub hint_of_form : Job → Beginning → Hint
 hint_of_form job recording = cond (is_started recording) hint.Untimed (forms_in job)
 
--- after the fault of this job: what wasn't read or written, what to do with the file that has no form that is read; nothing,
--- where memory is wanted (ours)
+-- after the fault of this job: what wasn't read or written, what to do with the file that has no form that is read, that the
+-- new files stay where an edit is refused; nothing, where memory is wanted (ours)
 abbrev pub hint_after : Job → JobFault → Beginnings → Option Device → Option Hint
 hint_after job (of_job.File fault.ReadFault) files failed = option_map (λ device. hint.Reading device) failed
 hint_after job (of_job.File fault.WriteFault) files failed = option_map (λ device. hint.Writing device) failed
@@ -62,6 +62,7 @@ hint_after job of_job.Compressed files failed = Some hint.Compressed
 hint_after job of_job.NoKnownForm files failed = Some (hint_of_form job files.script)
 hint_after job (of_job.Refused r) files failed = Some hint.Importable
 hint_after job (of_job.Line line f) files failed = Some hint.Stay
+hint_after job (of_job.Edit f) files failed = Some hint.Stay
 hint_after job of_job.Memory files failed = None
 
 -- where a pair was mended: where a file may be another one than it is taken for, it may be compressed; and a timing that

@@ -27,6 +27,7 @@ stop_status (Words words.BadProfile) = 2
 stop_status (Words words.BadSize) = 2
 stop_status (Words words.BadText) = 2
 stop_status (Words words.BothHeaders) = 2
+stop_status (Words words.BothPrints) = 2
 stop_status (Words words.Memory) = 3
 stop_status NotText = 2
 stop_status Memory = 3

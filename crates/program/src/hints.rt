@@ -49,7 +49,7 @@ pub enum Hint {
     Reading(Device),
     /// This wasn't written.
     Writing(Device),
-    /// The new files of `save` stay.
+    /// The new files of `save`, of a cut or an excerpt stay.
     Stay,
     /// How seconds are written.
     Seconds,
@@ -100,7 +100,7 @@ fn hint_after(
         JobFault::Compressed => Some(Hint::Compressed),
         JobFault::NoKnownForm => Some(hint_of_form(job, beginnings.script)),
         JobFault::Refused(_) => Some(Hint::Importable),
-        JobFault::Line { .. } => Some(Hint::Stay),
+        JobFault::Line { .. } | JobFault::Edit { .. } => Some(Hint::Stay),
     }
 }
 

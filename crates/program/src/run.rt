@@ -76,7 +76,8 @@ fn status_of(stop: &Stop) -> u8
             | WordsFault::BadProfile
             | WordsFault::BadSize
             | WordsFault::BadText
-            | WordsFault::BothHeaders,
+            | WordsFault::BothHeaders
+            | WordsFault::BothPrints,
         )
         | Stop::NotText => 2,
         Stop::Words(WordsFault::Memory)

@@ -20,7 +20,7 @@ use job_files::{
 use std::io;
 use std::rt::Files;
 use tape_core::{Fault, Watched};
-use tape_jobs::{JobFault, Outcome, import, mend, redact, run, run_on_recording, run_with};
+use tape_jobs::{JobFault, Outcome, import, mend, redact, run_on_recording, run_with};
 use tape_mend::Header;
 
 /// The paths of a command line, in its order.
@@ -87,9 +87,15 @@ pub fn open_and_run<R: Files + Input + Print + AllocGlobal>(
             let ran = import_into(rt, &mut recording, pair)?;
             Ok(ended_by(words.job, ran, Beginnings::of_one(recording)))
         }
-        (Job::Save | Job::Mend { .. } | Job::Redact { .. }, _) | (_, Source::Pair) => {
-            run_on_pair(rt, words, first)
-        }
+        (
+            Job::Save
+            | Job::Cut { .. }
+            | Job::Excerpt { .. }
+            | Job::Mend { .. }
+            | Job::Redact { .. },
+            _,
+        )
+        | (_, Source::Pair) => run_on_pair(rt, words, first),
         (_, Source::Recording) => run_alone(rt, words, first),
     }
 }
@@ -129,11 +135,11 @@ fn run_on_pair<R: Files + Input + Print + AllocGlobal>(
     let timing = open(rt, words.paths[1].as_str())?;
     let (job, text) = (words.job, words.text.as_slice());
     match job {
-        Job::Save => {
+        Job::Save | Job::Cut { .. } | Job::Excerpt { .. } => {
             let paths = (words.paths[2].as_str(), words.paths[3].as_str());
             let pair = create_pair(rt, paths, (&script, &timing))?;
             let mut sources = Sources::new(script, timing);
-            let ran = save_into(rt, &mut sources, pair);
+            let ran = edit_into(rt, job, &mut sources, pair);
             Ok(ended_by(job, ran, sources.into_beginnings()))
         }
         Job::Mend { header } => {
@@ -279,9 +285,10 @@ fn print_alone<R: Files + Print + AllocGlobal, Q: io::Read>(
     })
 }
 
-/// Saves what standard input asks for into two new files.
-fn save_into<R: Files + Input + AllocGlobal>(
+/// Edits a pair into two new files: as standard input asks for, or by a cut or an excerpt, which read none of it.
+fn edit_into<R: Files + Input + AllocGlobal>(
     rt: &R,
+    job: Job,
     sources: &mut Sources<R::File>,
     pair: NewPair<'_, R::File>,
 ) -> Ran
@@ -289,21 +296,45 @@ fn save_into<R: Files + Input + AllocGlobal>(
     requires timing { has_failed sources.old.timing ≡ false }
     requires out { has_failed pair.script.out ≡ false }
     requires out_timing { has_failed pair.timing.out ≡ false }
-    ensures { IsOutcome Job.Save result.outcome }
+    ensures { IsOutcome job result.outcome }
+{
+    if let Job::Save = job {
+        edit_by(rt, job, sources, &mut Watched::new(rt.reader()), pair)
+    } else {
+        edit_by(rt, job, sources, &mut Watched::new(io::empty()), pair)
+    }
+}
+
+/// Edits a pair into two new files by a job that writes them alone, over these request lines.
+fn edit_by<R: Files + AllocGlobal, Q: io::Read>(
+    rt: &R,
+    job: Job,
+    sources: &mut Sources<R::File>,
+    requests: &mut Watched<Q>,
+    pair: NewPair<'_, R::File>,
+) -> Ran
+    requires script { has_failed sources.old.script ≡ false }
+    requires timing { has_failed sources.old.timing ≡ false }
+    requires requests { has_failed requests.old ≡ false }
+    requires out { has_failed pair.script.out ≡ false }
+    requires out_timing { has_failed pair.timing.out ≡ false }
+    ensures { IsOutcome job result.outcome }
 {
     let NewPair {
         script: mut new_script,
         timing: mut new_timing,
     } = pair;
-    let mut requests = Watched::new(rt.reader());
-    let outcome = run(
+    let mut note = Watched::new(Vec::new(rt.alloc()));
+    let ended = run_with(
         rt.alloc(),
-        Job::Save,
+        job,
+        &[],
         &mut sources.script,
         &mut sources.timing,
-        &mut requests,
+        requests,
         &mut new_script.out,
         &mut new_timing.out,
+        &mut note,
     );
     let failed = first_failed(&[
         (sources.script.failed(), SCRIPT),
@@ -316,10 +347,10 @@ fn save_into<R: Files + Input + AllocGlobal>(
         script: new_script,
         timing: new_timing,
     };
-    let (outcome, failed) = place(rt, pair, BEHIND_PAIR, outcome, failed);
+    let (outcome, failed) = place(rt, pair, BEHIND_PAIR, ended, failed);
     Ran {
         outcome,
-        note: Watched::new(Vec::new(rt.alloc())),
+        note,
         failed,
         doubtful: false,
         silent: false,
