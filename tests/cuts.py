@@ -8,53 +8,27 @@ microsecond before them and a microsecond behind them. The new pair has to be th
 the text that `screen --state` writes; and at each moment at which something may change, a microsecond before it and
 behind it, plain terminals (plain_vt100.py, plain_today.py) that are fed what is due of the new recording have to be
 what they are by the old one at its moment: all that they keep, and what becomes of them by more bytes, since what is
-pending shows only then. `screen --escaped` and `reports` have to tell the same of both. The last line
-is 'N passed, M failed'.
+pending shows only then. `screen --escaped` and `reports` have to tell the same of both, and standard error the note of
+a job that plays. The last line is 'N passed, M failed'.
 """
 import concurrent.futures
 import functools
 import os
-import pickle
 import random
 import subprocess
 import sys
 import tempfile
 
-import harm
+import check_reader
 import plain_cut
 import plain_reader as plain
-import plain_today
-import plain_vt100
-import random_recordings
-import random_today
+import plain_terminal
 
 program = os.path.abspath(sys.argv[1])
 count = int(sys.argv[2]) if len(sys.argv) > 2 else 200
 seed = int(sys.argv[3]) if len(sys.argv) > 3 else 1
 # Far above what any of these recordings takes: a command that isn't done by then is stuck.
 PATIENCE = 20
-PROFILES = ["vt100", "vt102", "xterm"]
-# What finishes a sequence, an address, a string or a character that is pending, and what shows that none is.
-PROBES = [b"5;7HX", b"*Y", b"#8", b"\x18Z", b"1mq\x0eq", b"\\P", b"\x07x", b"\xa9y", b"B\r\nz", b"\x1b8w"]
-
-
-class Fed:
-    """A plain terminal of a profile, by what is due of a recording."""
-
-    def __init__(self, profile, size, text):
-        self.terminal = (
-            plain_today.Terminal(*size) if profile == "xterm" else plain_vt100.Terminal(edits=profile == "vt102")
-        )
-        self.terminal.feed(text)
-
-    def seen(self, probes):
-        """All that it keeps but what is pending, and the same behind each probe."""
-        kept, told = pickle.dumps(self.terminal), [self.terminal.state]
-        for probe in probes:
-            other = pickle.loads(kept)
-            other.feed(probe)
-            told.append(other.state)
-        return told
 
 
 def seconds(moment):
@@ -71,13 +45,11 @@ class Cutting:
     def __init__(self, folder, number):
         self.rng = random.Random(seed * 1_000_003 + number)
         self.folder = os.path.join(folder, str(number))
-        self.problems = []
+        self.problems, self.note = [], b""
         os.mkdir(self.folder)
-        self.profile = self.rng.choice(PROFILES)
-        self.size = random_today.size(self.rng) if self.profile == "xterm" else None
-        self.flags = ["--profile", self.profile]
-        if self.size:
-            self.flags += ["--size", f"{self.size[0]}x{self.size[1]}"]
+        self.profile = self.rng.choice(plain_terminal.PROFILES)
+        self.size = plain_terminal.size_for(self.rng, self.profile)
+        self.flags = plain_terminal.flags_of(self.profile, self.size)
 
     def path(self, name):
         return os.path.join(self.folder, name)
@@ -85,22 +57,11 @@ class Cutting:
     def run(self, *words):
         words = [program, *words]
         done = subprocess.run(words, stdin=subprocess.DEVNULL, capture_output=True, cwd=self.folder, timeout=PATIENCE)
-        return done.returncode, done.stdout
+        return done.returncode, done.stdout, done.stderr
 
     def expect(self, name, got, wanted):
         if got != wanted:
             self.problems.append(f"{name}: got {str(got)[:300]}, wanted {str(wanted)[:300]}")
-
-    def recording(self):
-        """Header, chunks and trailer: random ones, some of them over pieces of real recordings."""
-        header, chunks, trailer = random_recordings.recording(self.rng)
-        if self.profile == "xterm":
-            chunks = [(delay, random_today.stream(self.rng)) for delay, _ in chunks]
-        if self.rng.random() < 0.3:
-            _, more, _ = harm.piece(self.rng, harm.recordings())
-            at = self.rng.randint(0, len(chunks))
-            chunks = [*chunks[:at], *more, *chunks[at:]]
-        return header, [list(chunk) for chunk in chunks], trailer
 
     def write(self, recording):
         for name, text in zip(("s", "t"), plain.files_of(recording)):
@@ -113,15 +74,19 @@ class Cutting:
 
     def told(self, kind, at, *pair):
         """What a command tells of a moment of a pair."""
-        status, out = self.run(*kind, "--at", seconds(at), *self.flags, *pair)
-        self.expect(f"status of {kind} at {at}", status, 0)
+        status, out, errors = self.run(*kind, "--at", seconds(at), *self.flags, *pair)
+        self.expect(f"{kind} at {at}", (status, errors), (0, self.note))
         return out
+
+    def reports(self, at, *pair):
+        """All that a pair has sent by a moment, in hexadecimal digits."""
+        return self.told(["reports"], at, *pair).strip()
 
     def same_at(self, name, old, new, moments, old_moment):
         for at in moments:
-            then, probes = old_moment(at), self.rng.sample(PROBES, 3)
-            got = Fed(self.profile, self.size, plain.due(new, at)).seen(probes)
-            wanted = Fed(self.profile, self.size, plain.due(old, then)).seen(probes)
+            then, probes = old_moment(at), self.rng.sample(plain_terminal.PROBES, 3)
+            got = plain_terminal.Fed(self.profile, self.size, plain.due(new, at)).seen(probes)
+            wanted = plain_terminal.Fed(self.profile, self.size, plain.due(old, then)).seen(probes)
             self.expect(f"{name}: seen at {at}", got, wanted)
         for at in self.rng.sample(moments, min(2, len(moments))):
             then = old_moment(at)
@@ -133,7 +98,8 @@ class Cutting:
         for path in ("s2", "t2"):
             if os.path.exists(self.path(path)):
                 os.remove(self.path(path))
-        self.expect(f"{name} {words}", self.run(name, *words, *self.flags, "s", "t", "s2", "t2"), (0, b""))
+        told = self.run(name, *words, *self.flags, "s", "t", "s2", "t2")
+        self.expect(f"{name} {words}", told, (0, b"", self.note))
         header, chunks, trailer = recording
         self.expect(f"{name} {words}: the pair", self.read(), (header, wanted, trailer))
         moments = around([moment for moment, _ in plain_cut.timed(wanted)] + [0], plain.GREATEST)
@@ -145,19 +111,21 @@ class Cutting:
         wanted = plain_cut.cut(chunks, start, end, state)
         words = ["--from", seconds(start), "--to", seconds(end)]
         self.job("cut", words, recording, wanted, lambda at: plain_cut.before_cut(at, start, end))
-        stay = self.told(["reports"], start, "s", "t").strip()
-        whole = self.told(["reports"], plain.GREATEST, "s", "t").strip()
-        gone = self.told(["reports"], max(start, end), "s", "t").strip()
-        self.expect("reports", self.told(["reports"], plain.GREATEST, "s2", "t2").strip(), stay + whole[len(gone) :])
+        stay, gone, whole = (self.reports(at, "s", "t") for at in (start, max(start, end), plain.GREATEST))
+        self.expect("reports", self.reports(plain.GREATEST, "s2", "t2"), stay + whole[len(gone) :])
 
     def excerpt(self, recording, start, end):
         state = self.told(["screen", "--state"], start, "s", "t")
         wanted = plain_cut.excerpt(recording[1], start, end, state)
         words = ["--from", seconds(start)] + ([] if end is None else ["--to", seconds(end)])
         self.job("excerpt", words, recording, wanted, lambda at: plain_cut.before_excerpt(at, start, end))
+        last = plain_cut.before_excerpt(plain.GREATEST, start, end)
+        gone, all_by = self.reports(start, "s", "t"), self.reports(last, "s", "t")
+        self.expect("reports", self.reports(plain.GREATEST, "s2", "t2"), all_by[len(gone) :])
 
     def everything(self):
-        recording = self.recording()
+        recording = plain_terminal.recording_for(self.rng, self.profile)
+        self.note = check_reader.note_line(self.profile, recording[0], recording[2], self.size)
         self.write(recording)
         moments = around([moment for moment, _ in plain_cut.timed(recording[1])] + [0], plain.GREATEST)
         for _ in range(2):

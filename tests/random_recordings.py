@@ -165,10 +165,15 @@ def pieces_of(rng, kinds):
     return text
 
 
-def recording(rng):
-    """Header, chunks and trailer: each chunk a delay in microseconds and bytes."""
-    kinds = rng.choice(
+def kinds_of(rng):
+    """What a recording is made of."""
+    return rng.choice(
         [[WORDS, WORDS, MOVES], [WORDS, MOVES, DRAWS], [WORDS, MOVES, DRAWS, UNKNOWN], [UNKNOWN, WORDS, VT52, STRAY]]
     )
+
+
+def recording(rng):
+    """Header, chunks and trailer: each chunk a delay in microseconds and bytes."""
+    kinds = kinds_of(rng)
     chunks = [(rng.choice([0, 0, 1, 250000, 10**6]), pieces_of(rng, kinds)) for _ in range(rng.randint(0, 10))]
     return header_of(rng), chunks, rng.choice(TRAILERS)
