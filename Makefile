@@ -64,7 +64,9 @@ test:
 		'tests/fuzz.py bin/typetool 2000' \
 		'tests/today_fuzz.py bin/typetool 1000' \
 		'tests/transcripts.py bin/typetool 1000' \
-		'tests/cuts.py bin/typetool 200' \
+		'tests/state_text.py bin/typetool 1000' \
+		'tests/state_drawn.py bin/typetool 100 20' \
+		'tests/cuts.py bin/typetool 1000' \
 		'tests/today_recordings.py bin/typetool' \
 		'tests/linear.py bin/typetool' \
 		'tests/pictures.py bin/typetool' \
@@ -80,8 +82,8 @@ BROWSER := 'tests/browser.py bin/typetool' -- 'tests/browser_look.py bin/typetoo
 browser: bin/typetool
 	tests/run.py $(BROWSER)
 
-# The long forms: more limits on memory, 20,000 damaged pairs and random recordings, 1,000 kills of each job that writes a
-# pair, an archive of 2,000, every growth refused in turn, and more wrong bodies.
+# The long forms: more limits on memory, 20,000 damaged pairs and random recordings, 3,000 that are cut, 1,000 kills of
+# each job that writes a pair, an archive of 2,000, every growth refused in turn, and more wrong bodies.
 soak: bin/typetool
 	tests/run.py \
 		'tests/memory.py bin/typetool 16' \
@@ -92,6 +94,8 @@ soak: bin/typetool
 		'tests/fuzz.py bin/typetool 20000' \
 		'tests/today_fuzz.py bin/typetool 10000' \
 		'tests/transcripts.py bin/typetool 3000' \
+		'tests/state_text.py bin/typetool 3000' \
+		'tests/state_drawn.py bin/typetool 3000 500' \
 		'tests/cuts.py bin/typetool 3000' \
 		'tests/archive.py bin/typetool' -- \
 		tests/refused.py -- \

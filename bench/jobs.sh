@@ -3,7 +3,8 @@
 # same pair: `changes` over the whole recording over `screen` at its end, `find` over `changes` for a text that never
 # stands there and for one that comes and goes, `picture`, `transcript` and `check` over `screen`, `page` and `cast` over
 # `changes`, `info` over reading the pair (`due` at a moment before its first chunk), `save` without edits over `due` at
-# the end, and `screen` at the end over a session that stores no terminals. Last it counts what `import` takes, and `find`
+# the end, `screen` at the end over a session that stores no terminals, `screen --state` over `screen --escaped`, and `cut`
+# of a stretch over `screen` at its end and `save` together. Last it counts what `import` takes, and `find`
 # where its text stands often, which takes valgrind. Usage: bench/jobs.sh [PROGRAM]
 set -euo pipefail
 here=$(realpath "$(dirname "$0")")
@@ -37,7 +38,12 @@ for _ in 1 2 3 4 5; do
     # It ends with 1, since it notes sequences that nothing plays, and with nothing else.
     # shellcheck disable=SC2016
     measure check end.requests sh -c '"$0" check big.script big.timing || [ $? -eq 1 ]' "$program"
+    measure escaped end.requests "$program" screen --escaped "${end[@]}"
+    measure state end.requests "$program" screen --state "${end[@]}"
     measure save /dev/null "$program" save big.script big.timing new.script new.timing
+    rm -f new.script new.timing
+    measure stretch end.requests "$program" screen --at 40 big.script big.timing
+    measure cut /dev/null "$program" cut --from 10 --to 40 big.script big.timing new.script new.timing
     rm -f new.script new.timing
 done
 
@@ -61,6 +67,9 @@ ratio check screen 1
 ratio info read 1.1
 ratio save due 1.5
 ratio screen feed 1.1
+ratio state escaped 2
+both=$(awk "BEGIN { print $(least stretch) + $(least save) }")
+python3 "$here/shared.py" figure 'cut over screen and save' "$(least cut)" "$both" 1.2
 # Recordings of other makers, in instructions.
 python3 "$here/imports.py" "$program"
 # Where the text stands often: instructions over those of `screen`, and how much more twice the input takes.

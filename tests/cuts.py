@@ -3,18 +3,22 @@
 
     tests/cuts.py TYPETOOL [RECORDINGS [SEED]]
 
-Each is played as a VT100, as a VT102 and as a terminal of today, and cut at moments at which chunks are due, a
-microsecond before them and a microsecond behind them. The new pair has to be the one that plain_cut.py comes to, around
-the text that `screen --state` writes; and at each moment at which something may change, a microsecond before it and
-behind it, plain terminals (plain_vt100.py, plain_today.py) that are fed what is due of the new recording have to be
-what they are by the old one at its moment: all that they keep, and what becomes of them by more bytes, since what is
-pending shows only then. `screen --escaped` and `reports` have to tell the same of both, and standard error the note of
-a job that plays. The last line is 'N passed, M failed'.
+The shipped recordings are cut too, and turned into pages, which have to show the same. Each is played as a VT100, as a
+VT102 or as a terminal of today, and cut at moments at which chunks are due, a microsecond before them and a microsecond
+behind them. The new pair has to be the one that plain_cut.py comes to, around the text that `screen --state` writes;
+and at each moment at which something may change, a microsecond before it and behind it, plain terminals
+(plain_terminal.py) that are fed what is due of the new recording have to be what they are by the old one at its moment:
+all that they keep, and what becomes of them by more bytes, since what is pending shows only then. `screen --escaped`
+and `reports` have to tell the same of both, and standard error the note of a job that plays. The last line is
+'N passed, M failed'.
 """
 import concurrent.futures
 import functools
+import glob
+import json
 import os
 import random
+import re
 import subprocess
 import sys
 import tempfile
@@ -29,6 +33,11 @@ count = int(sys.argv[2]) if len(sys.argv) > 2 else 200
 seed = int(sys.argv[3]) if len(sys.argv) > 3 else 1
 # Far above what any of these recordings takes: a command that isn't done by then is stuck.
 PATIENCE = 20
+# So many moments of a new recording are looked at: all that there are of a random one, most often.
+MOST = 80
+TOP = os.path.join(os.path.dirname(os.path.abspath(__file__)), "..")
+KINDS = ["tests/recordings", "examples", "examples/today"]
+DATA = re.compile('<script type="application/json" id="entries">(.*?)</script>', re.S)
 
 
 def seconds(moment):
@@ -41,14 +50,47 @@ def around(moments, most):
     return sorted(at for at in near if 0 <= at <= most)
 
 
+def shipped():
+    """The shipped recordings, each with a profile; those of today as of today alone."""
+    found = {kind: sorted(glob.glob(os.path.join(TOP, kind, "*.script"))) for kind in KINDS}
+    paths = [(path, profile) for kind in KINDS[:2] for path in found[kind] for profile in plain_terminal.PROFILES]
+    return paths + [(path, "xterm") for path in found[KINDS[2]]]
+
+
+def shown_by(page):
+    """Moments, and what the entries of a page show from them on."""
+    rows = [[]] * 500
+    for moment, flags, line, column, *changes in json.loads(DATA.search(page.decode())[1]):
+        before, rows = rows, list(rows)
+        for place, change in zip(changes[::2], changes[1::2]):
+            rows[place - 1] = before[change - 1] if isinstance(change, int) else change
+        yield round(moment * 10**6), (flags, line, column, rows)
+
+
+def shown_at(shown, moment):
+    """What is shown at a moment; before the first chunk nothing is told."""
+    return ([None] + [screen for at, screen in shown if at <= moment])[-1]
+
+
 class Cutting:
+    """A recording that is cut: one of those that are shipped, or a random one."""
+
     def __init__(self, folder, number):
         self.rng = random.Random(seed * 1_000_003 + number)
         self.folder = os.path.join(folder, str(number))
-        self.problems, self.note = [], b""
+        self.problems = []
         os.mkdir(self.folder)
-        self.profile = self.rng.choice(plain_terminal.PROFILES)
-        self.size = plain_terminal.size_for(self.rng, self.profile)
+        self.is_shipped = number < len(SHIPPED)
+        if self.is_shipped:
+            path, self.profile = SHIPPED[number]
+            with open(path, "rb") as script, open(path.removesuffix("script") + "timing", "rb") as timing:
+                self.recording = plain.read(script.read(), timing.read())
+            self.size = check_reader.played_size(self.recording[0][:-1]) if self.profile == "xterm" else None
+        else:
+            self.profile = self.rng.choice(plain_terminal.PROFILES)
+            self.size = plain_terminal.size_for(self.rng, self.profile)
+            self.recording = plain_terminal.recording_for(self.rng, self.profile)
+        self.note = check_reader.note_line(self.profile, self.recording[0], self.recording[2], self.size)
         self.flags = plain_terminal.flags_of(self.profile, self.size)
 
     def path(self, name):
@@ -63,8 +105,8 @@ class Cutting:
         if got != wanted:
             self.problems.append(f"{name}: got {str(got)[:300]}, wanted {str(wanted)[:300]}")
 
-    def write(self, recording):
-        for name, text in zip(("s", "t"), plain.files_of(recording)):
+    def write(self):
+        for name, text in zip(("s", "t"), plain.files_of(self.recording)):
             with open(self.path(name), "wb") as file:
                 file.write(text)
 
@@ -93,44 +135,57 @@ class Cutting:
             got = self.told(["screen", "--escaped"], at, "s2", "t2")
             self.expect(f"{name}: drawn at {at}", got, self.told(["screen", "--escaped"], then, "s", "t"))
 
-    def job(self, name, words, recording, wanted, old_moment):
+    def same_page(self, name, moments, old_moment):
+        pages = [self.run("page", *self.flags, *pair) for pair in (("s2", "t2"), ("s", "t"))]
+        for status, _, errors in pages:
+            self.expect(f"{name}: a page", (status, errors), (0, self.note))
+        new, old = (list(shown_by(page)) for _, page, _ in pages)
+        for at in moments:
+            got, wanted = shown_at(new, at), shown_at(old, old_moment(at))
+            if None not in (got, wanted):
+                self.expect(f"{name}: the page at {at}", got, wanted)
+
+    def job(self, name, words, wanted, old_moment):
         """Runs a job, and compares what it wrote with the chunks that are wanted."""
         for path in ("s2", "t2"):
             if os.path.exists(self.path(path)):
                 os.remove(self.path(path))
         told = self.run(name, *words, *self.flags, "s", "t", "s2", "t2")
         self.expect(f"{name} {words}", told, (0, b"", self.note))
-        header, chunks, trailer = recording
+        header, chunks, trailer = self.recording
         self.expect(f"{name} {words}: the pair", self.read(), (header, wanted, trailer))
         moments = around([moment for moment, _ in plain_cut.timed(wanted)] + [0], plain.GREATEST)
-        self.same_at(f"{name} {words}", chunks, wanted, moments, old_moment)
+        some = sorted(self.rng.sample(moments, min(len(moments), MOST)))
+        self.same_at(f"{name} {words}", chunks, wanted, some, old_moment)
+        if self.is_shipped:
+            self.same_page(f"{name} {words}", moments, old_moment)
 
-    def cut(self, recording, start, end):
-        chunks = recording[1]
+    def cut(self, start, end):
         state = self.told(["screen", "--state"], end, "s", "t")
-        wanted = plain_cut.cut(chunks, start, end, state)
+        wanted = plain_cut.cut(self.recording[1], start, end, state)
         words = ["--from", seconds(start), "--to", seconds(end)]
-        self.job("cut", words, recording, wanted, lambda at: plain_cut.before_cut(at, start, end))
+        self.job("cut", words, wanted, lambda at: plain_cut.before_cut(at, start, end))
         stay, gone, whole = (self.reports(at, "s", "t") for at in (start, max(start, end), plain.GREATEST))
         self.expect("reports", self.reports(plain.GREATEST, "s2", "t2"), stay + whole[len(gone) :])
 
-    def excerpt(self, recording, start, end):
+    def excerpt(self, start, end):
         state = self.told(["screen", "--state"], start, "s", "t")
-        wanted = plain_cut.excerpt(recording[1], start, end, state)
+        wanted = plain_cut.excerpt(self.recording[1], start, end, state)
         words = ["--from", seconds(start)] + ([] if end is None else ["--to", seconds(end)])
-        self.job("excerpt", words, recording, wanted, lambda at: plain_cut.before_excerpt(at, start, end))
+        self.job("excerpt", words, wanted, lambda at: plain_cut.before_excerpt(at, start, end))
         last = plain_cut.before_excerpt(plain.GREATEST, start, end)
         gone, all_by = self.reports(start, "s", "t"), self.reports(last, "s", "t")
         self.expect("reports", self.reports(plain.GREATEST, "s2", "t2"), all_by[len(gone) :])
 
     def everything(self):
-        recording = plain_terminal.recording_for(self.rng, self.profile)
-        self.note = check_reader.note_line(self.profile, recording[0], recording[2], self.size)
-        self.write(recording)
-        moments = around([moment for moment, _ in plain_cut.timed(recording[1])] + [0], plain.GREATEST)
+        self.write()
+        moments = around([moment for moment, _ in plain_cut.timed(self.recording[1])] + [0], plain.GREATEST)
         for _ in range(2):
-            self.cut(recording, self.rng.choice(moments), self.rng.choice(moments))
-            self.excerpt(recording, self.rng.choice(moments), self.rng.choice([*moments, None]))
+            self.cut(self.rng.choice(moments), self.rng.choice(moments))
+            self.excerpt(self.rng.choice(moments), self.rng.choice([*moments, None]))
+
+
+SHIPPED = shipped()
 
 
 def one(folder, number):
@@ -146,16 +201,16 @@ def one(folder, number):
 
 
 def main():
-    failed = 0
+    failed, whole = 0, count + len(SHIPPED)
     folder = tempfile.mkdtemp(prefix="cutting-")
     with concurrent.futures.ProcessPoolExecutor(os.cpu_count()) as pool:
-        for number, problems in pool.map(functools.partial(one, folder), range(count), chunksize=8):
+        for number, problems in pool.map(functools.partial(one, folder), range(whole), chunksize=4):
             failed += bool(problems)
             for problem in problems:
                 print(f"FAILED recording {number} in {folder}: {problem}")
     if not failed:
         subprocess.run(["rm", "-rf", folder], check=True)
-    print(f"cuts: {count - failed} passed, {failed} failed")
+    print(f"cuts: {whole - failed} passed, {failed} failed")
     return failed > 0
 
 

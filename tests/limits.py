@@ -307,6 +307,45 @@ def limits_of_edits():
     )
 
 
+def stamps():
+    """What tells whether the old files were touched."""
+    return [(os.stat(name).st_size, os.stat(name).st_mtime_ns) for name in ("s", "t")]
+
+
+def not_made(name, words, fault):
+    """A cut or an excerpt that a limit refuses: the old files stay as they were, and the new ones empty."""
+    old = stamps()
+    check(name, run([*words, "s", "t", "s2", "t2"]), refused(fault))
+    parts = [path for path in ("s2.part", "t2.part") if os.path.exists(path)]
+    check(f"{name}, the files", (stamps(), open_all("s2", "t2"), parts), (old, [b"", b""], []))
+    os.remove("s2")
+    os.remove("t2")
+
+
+def most_chunks_of_cuts():
+    """A text comes in where there are as many chunks as there may be; and where there is room for one."""
+    pair(HEADER, b"1 0\n" + b"0 0\n" * 999_999)
+    not_made("a chunk more by an excerpt", ["excerpt"], "E4 TooManyChunks")
+    pair(HEADER, b"1 0\n" + b"0 0\n" * 999_998)
+    check("an excerpt of 1,000,000 chunks", run(["excerpt", "s", "t", "s2", "t2"]), (0, b"", b""))
+    os.rename("s2", "s")
+    os.rename("t2", "t")
+    chunk_count("1,000,000 chunks of an excerpt", 1_000_000, 0)
+    # The text of this screen, of which each cell has its rendition, takes two chunks where one goes.
+    screen = (b"\x1b[1mA\x1b[mB" * 200_000)[:1_048_576]
+    words = ["cut", "--from", "0.5", "--to", "1", "--profile", "xterm", "--size", "1000x500"]
+    pair(HEADER + screen, b"1 1048576\n1 0\n" + b"0 0\n" * 999_998)
+    not_made("a chunk more by a cut", words, "E4 TooManyChunks")
+
+
+def longest_body_of_cuts():
+    """A text comes in where there is room for a byte."""
+    put("t", b"1 1048575\n" + b"0 1048576\n" * 1023)
+    not_made("a body too long by an excerpt", ["excerpt"], "E5 TooManyBytes")
+    put("t", b"1 1\n1 1048574\n" + b"0 1048576\n" * 1023)
+    not_made("a body too long by a cut", ["cut", "--from", "0.5", "--to", "1"], "E5 TooManyBytes")
+
+
 def full_body():
     """Edits of a recording with the most chunks and room for one byte. Of several faults of an edit the first one of E1
     to E8 is told; tests of pairs without E5 stand in crates/tape_tests."""
@@ -336,6 +375,7 @@ def full_body():
     for (line, answer), got in zip(rows, out.split(b"\n")):
         check("a full body: " + line[:40].decode(), got.decode(), f"refused {answer}" if answer else "ok")
     check("a byte too many", saved(b"cap 1\nreplace 1024 4141\n"), refused("request line 2: E5 TooManyBytes"))
+    longest_body_of_cuts()
     os.remove("s")
 
 
@@ -456,6 +496,7 @@ def main():
         limits_of_importing()
         limits_of_edits()
         full_body()
+        most_chunks_of_cuts()
         limits_of_words()
         found_texts()
         shown_moments()

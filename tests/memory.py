@@ -4,8 +4,8 @@
     tests/memory.py TYPETOOL [STEP_KIB]
 
 Each run has to end with status 0 and the whole output, or with status 3, `typetool: out of memory`, and a beginning of
-the output (the second file of `save` empty unless the first is whole). The steps begin where the program can be started
-at all. A command that met no refusal fails. The last line is 'N passed, M failed'.
+the output (the second file of a new pair empty unless the first is whole). The steps begin where the program can be
+started at all. A command that met no refusal fails. The last line is 'N passed, M failed'.
 """
 import json
 import os
@@ -79,9 +79,12 @@ QUESTIONS = b"screen 99\nreports 99\nchanges - 99\nscreen 0\nlog\ninfo\n"
 COMMANDS = [
     *(([*words, "s", "t"], b"") for words in commands.reading("99", "line 5") if words != ["session"]),
     (["find", "--profile", "xterm", "line 5", "s", "t"], b""),
+    (["screen", "--state", "--at", "99", "s", "t"], b""),
+    (["screen", "--state", "--profile", "xterm", "--at", "99", "s", "t"], b""),
     (["save", "s", "t", "s2", "t2"], REQUESTS),
-    (["cut", "--from", "0.1", "--to", "0.3", "s", "t", "s2", "t2"], b""),
-    (["excerpt", "--from", "0.3", "--profile", "xterm", "s", "t", "s2", "t2"], b""),
+    (["cut", "--from", "0.1", "--to", "0.4", "s", "t", "s2", "t2"], b""),
+    (["cut", "--profile", "xterm", "--from", "0.1", "--to", "0.4", "s", "t", "s2", "t2"], b""),
+    (["excerpt", "--from", "0.4", "s", "t", "s2", "t2"], b""),
     (["mend", "s", "t", "s2", "t2"], b""),
     (["import", "r", "s2", "t2"], b""),
     (["redact", "line 5", "s", "t", "s2", "t2"], b""),

@@ -28,6 +28,7 @@ import tempfile
 import time
 
 import mend_reader
+import plain_cut
 import plain_import
 import plain_reader as plain
 from skip import end, lacks, skip
@@ -53,10 +54,6 @@ def mended(script, timing):
     return mend_reader.mend("", script, timing)[:2]
 
 
-def unchanged(script, timing):
-    return plain.save(plain.read(script, timing), b"")
-
-
 def redacted(script, timing):
     return script.replace(b"started on", b"*" * 10), plain.save(plain.read(script, timing), b"")[1]
 
@@ -67,17 +64,40 @@ def imported(file):
     return script, b"".join(b"%s %d\n" % (plain.written(delay), len(data)) for delay, data in read.chunks)
 
 
+def state_at(words, script, timing):
+    """The state text of a moment of a pair: what stands in it, tests/state_text.py looks at."""
+    with tempfile.TemporaryDirectory(prefix="state-") as folder:
+        for name, text in zip(OLD[2], (script, timing)):
+            with open(os.path.join(folder, name), "wb") as file:
+                file.write(text)
+        run = [program, "screen", "--state", *words, *OLD[2]]
+        return subprocess.run(run, cwd=folder, capture_output=True, check=True, timeout=PATIENCE).stdout
+
+
+def cut(script, timing):
+    header, chunks, trailer = plain.read(script, timing)
+    state = state_at(["--at", "700"], script, timing)
+    return plain.files_of((header, plain_cut.cut(chunks, 100 * 10**6, 700 * 10**6, state), trailer))
+
+
+def excerpt(script, timing):
+    header, chunks, trailer = plain.read(script, timing)
+    state = state_at(["--profile", "xterm", "--at", "100"], script, timing)
+    return plain.files_of((header, plain_cut.excerpt(chunks, 100 * 10**6, None, state), trailer))
+
+
 # A job: its name and flags, what it reads from standard input, and the pair that it makes of the old files.
 JOBS = [
     (["save"], EDITS, saved),
-    (["cut", "--from", "1", "--to", "1"], b"", unchanged),
+    (["cut", "--from", "100", "--to", "700"], b"", cut),
+    (["excerpt", "--profile", "xterm", "--from", "100"], b"", excerpt),
     (["mend"], b"", mended),
     (["import"], b"", imported),
     (["redact", "started on"], b"", redacted),
     (["redact", "--profile", "xterm", "started on"], b"", redacted),
 ]
 # How many chunks a job is killed over; redact looks at the screen after each byte.
-CHUNKS = {"save": 40_000, "cut": 40_000, "mend": 40_000, "import": 40_000, "redact": 4_000}
+CHUNKS = {"save": 40_000, "cut": 40_000, "excerpt": 40_000, "mend": 40_000, "import": 40_000, "redact": 4_000}
 # The old files, by how many a job reads.
 OLD = {1: ("old.recording",), 2: ("old.script", "old.timing")}
 
