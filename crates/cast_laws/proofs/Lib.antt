@@ -1,0 +1,9 @@
+mod ChunkLemmas
+mod EventLemmas
+mod Examples
+mod HeaderLemmas
+mod ImportLemmas
+mod NumberLemmas
+mod ReadLemmas
+mod TextLemmas
+mod ValueLemmas
