@@ -33,7 +33,7 @@ count = int(sys.argv[2]) if len(sys.argv) > 2 else 200
 seed = int(sys.argv[3]) if len(sys.argv) > 3 else 1
 # Far above what any of these recordings takes: a command that isn't done by then is stuck.
 PATIENCE = 20
-# So many moments of a new recording are looked at: all that there are of a random one, most often.
+# So many moments of a new recording are looked at: all of a random one, most often.
 MOST = 80
 TOP = os.path.join(os.path.dirname(os.path.abspath(__file__)), "..")
 KINDS = ["tests/recordings", "examples", "examples/today"]
@@ -58,9 +58,9 @@ def shipped():
 
 
 def shown_by(page):
-    """Moments, and what the entries of a page show from them on."""
-    rows = [[]] * 500
-    for moment, flags, line, column, *changes in json.loads(DATA.search(page.decode())[1]):
+    """Moments, and what the entries of a page show from them on; that of a terminal of today tells its size first."""
+    rows, entries = [[0]] * 500, json.loads(DATA.search(page.decode())[1])
+    for moment, flags, line, column, *changes in (entry for entry in entries if len(entry) > 2):
         before, rows = rows, list(rows)
         for place, change in zip(changes[::2], changes[1::2]):
             rows[place - 1] = before[change - 1] if isinstance(change, int) else change
@@ -68,8 +68,8 @@ def shown_by(page):
 
 
 def shown_at(shown, moment):
-    """What is shown at a moment; before the first chunk nothing is told."""
-    return ([None] + [screen for at, screen in shown if at <= moment])[-1]
+    """What is shown at a moment."""
+    return [screen for at, screen in shown if at <= moment][-1]
 
 
 class Cutting:
@@ -125,10 +125,10 @@ class Cutting:
         return self.told(["reports"], at, *pair).strip()
 
     def same_at(self, name, old, new, moments, old_moment):
+        probes = self.rng.sample(plain_terminal.PROBES, 3)
+        seen = functools.cache(lambda text: plain_terminal.Fed(self.profile, self.size, text).seen(probes))
         for at in moments:
-            then, probes = old_moment(at), self.rng.sample(plain_terminal.PROBES, 3)
-            got = plain_terminal.Fed(self.profile, self.size, plain.due(new, at)).seen(probes)
-            wanted = plain_terminal.Fed(self.profile, self.size, plain.due(old, then)).seen(probes)
+            got, wanted = seen(plain.due(new, at)), seen(plain.due(old, old_moment(at)))
             self.expect(f"{name}: seen at {at}", got, wanted)
         for at in self.rng.sample(moments, min(2, len(moments))):
             then = old_moment(at)
@@ -139,11 +139,11 @@ class Cutting:
         pages = [self.run("page", *self.flags, *pair) for pair in (("s2", "t2"), ("s", "t"))]
         for status, _, errors in pages:
             self.expect(f"{name}: a page", (status, errors), (0, self.note))
+        if any(status for status, _, _ in pages):
+            return
         new, old = (list(shown_by(page)) for _, page, _ in pages)
         for at in moments:
-            got, wanted = shown_at(new, at), shown_at(old, old_moment(at))
-            if None not in (got, wanted):
-                self.expect(f"{name}: the page at {at}", got, wanted)
+            self.expect(f"{name}: the page at {at}", shown_at(new, at), shown_at(old, old_moment(at)))
 
     def job(self, name, words, wanted, old_moment):
         """Runs a job, and compares what it wrote with the chunks that are wanted."""
