@@ -10,6 +10,23 @@ import random_today
 PROFILES = ["vt100", "vt102", "xterm"]
 # What finishes a sequence, an address, a string or a character that is pending, and what shows that none is.
 PROBES = [b"5;7HX", b"*Y", b"#8", b"\x18Z", b"1mq\x0eq", b"\\P", b"\x07x", b"\xa9y", b"B\r\nz", b"\x1b8w"]
+# What leaves a wrap that is pending, one that is saved, a set, a sequence, an address, a title or half a character.
+ENDS = [
+    b"\x1b[9;999Hx",
+    b"\x1b[9;999Hx\x1b7\x1b[H",
+    b"\x1b)0\x0e\x1b[9;999Hq",
+    b"\x1b",
+    b"\x1b[",
+    b"\x1b[5;9",
+    b"\x1b[?2",
+    b"\x1b(",
+    b"\x1b]0;a",
+    b"\x1b[?2l\x1bY%",
+    b"\x1b[?2l\x1bF\x1b<",
+    b"\x1bka",
+    b"\xe6\x97",
+    b"\x1b[4h\x1b[9;5Ha",
+]
 
 
 def flags_of(profile, size):
@@ -31,7 +48,7 @@ def bytes_for(rng, profile):
 
 
 def recording_for(rng, profile):
-    """Header, chunks and trailer: random ones, some of them over pieces of real recordings."""
+    """Header, chunks and trailer: random ones, some of them over pieces of real recordings, some chunks with an end."""
     header, chunks, trailer = random_recordings.recording(rng)
     if profile == "xterm":
         chunks = [(delay, random_today.stream(rng)) for delay, _ in chunks]
@@ -39,7 +56,7 @@ def recording_for(rng, profile):
         _, more, _ = harm.piece(rng, harm.recordings())
         at = rng.randint(0, len(chunks))
         chunks = [*chunks[:at], *more, *chunks[at:]]
-    return header, [list(chunk) for chunk in chunks], trailer
+    return header, [[delay, text + rng.choice(ENDS) * (rng.random() < 0.3)] for delay, text in chunks], trailer
 
 
 class Fed:
