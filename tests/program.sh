@@ -486,7 +486,7 @@ got=$?
 : >out.txt
 verdict 'a state' 0 $got '' ''
 { printf '%b\033[7;31' "$head"; cat state.txt; printf C; } >stated.script
-printf '0 %s\n' $(($(wc -c <state.txt) + 6)) >stated.timing
+printf '0 %s\n' $(($(wc -c <state.txt) + 7)) >stated.timing
 check 'a state behind what is pending' 0 "$(screen_of "$full\\nC")" '' screen --at 0 stated.script stated.timing
 check 'both texts of a screen' 2 '' 'typetool: --state and --escaped exclude each other\n' \
     screen --at 0 --escaped --state nowhere nowhere
