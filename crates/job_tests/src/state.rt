@@ -21,7 +21,7 @@ const A80: &[u8] =
 /// (without the empty lines at the end).
 type Row<'a> = (Player, &'a [u8], &'a [u8], &'a [u8], &'a str);
 
-const ROWS: [Row<'static>; 13] = [
+const ROWS: &[Row<'static>] = &[
     (VT100, b"ab", b"", b"c", "abc"),
     // The wrap is pending.
     (
@@ -89,29 +89,43 @@ fn state_of<R: Abort + AllocGlobal>(rt: &R, player: Player, bytes: &[u8]) -> Res
     text_of(rt, Job::Screen { at: 0, print }, bytes)
 }
 
+/// Sees that a row's text makes the other terminal the first one.
+fn makes<R: Abort + AllocGlobal>(rt: &R, row: &Row<'_>) -> Result<(), Fail> {
+    let (player, made, before, more, shown) = *row;
+    let state = state_of(rt, player, made)?;
+    let bytes = [before, state.as_slice(), more].concat(rt.alloc())?;
+    let print = Print::Plain(player);
+    let screen = text_of(rt, Job::Screen { at: 0, print }, bytes.as_slice())?;
+    let text = str::from_utf8(screen.as_slice()).unwrap_or("");
+    assert_eq!(rt; text.trim_end_matches('\n'), shown, "{made:?}");
+    Ok(())
+}
+
 #[test]
 fn a_state_text_makes_any_terminal_this_one(rt: HostRuntime) -> Result<(), Fail> {
-    for (player, made, before, more, shown) in ROWS {
-        let state = state_of(&rt, player, made)?;
-        let bytes = [before, state.as_slice(), more].concat(rt.alloc())?;
-        let print = Print::Plain(player);
-        let screen = text_of(&rt, Job::Screen { at: 0, print }, bytes.as_slice())?;
-        let text = str::from_utf8(screen.as_slice()).unwrap_or("");
-        assert_eq!(&rt; text.trim_end_matches('\n'), shown, "{made:?}");
+    for row in ROWS {
+        makes(&rt, row)?;
     }
+    Ok(())
+}
+
+/// Sees that the terminal that a row's text makes has the same text, and has sent nothing.
+fn gives_itself<R: Abort + AllocGlobal>(rt: &R, row: &Row<'_>) -> Result<(), Fail> {
+    let (player, made, before, _, _) = *row;
+    let state = state_of(rt, player, made)?;
+    let bytes = [before, state.as_slice()].concat(rt.alloc())?;
+    let again = state_of(rt, player, bytes.as_slice())?;
+    assert_eq!(rt; again.as_slice(), state.as_slice(), "{made:?}");
+    let sent = text_of(rt, Job::Reports { at: 0, player }, bytes.as_slice())?;
+    assert_eq!(rt; sent.as_slice(), b"\n".as_slice(), "{made:?}");
     Ok(())
 }
 
 /// It is a function of what is seen, so the terminal that it makes has the same; and it asks for no report.
 #[test]
 fn a_state_text_gives_itself_and_asks_nothing(rt: HostRuntime) -> Result<(), Fail> {
-    for (player, made, before, _, _) in ROWS {
-        let state = state_of(&rt, player, made)?;
-        let bytes = [before, state.as_slice()].concat(rt.alloc())?;
-        let again = state_of(&rt, player, bytes.as_slice())?;
-        assert_eq!(&rt; again.as_slice(), state.as_slice(), "{made:?}");
-        let sent = text_of(&rt, Job::Reports { at: 0, player }, bytes.as_slice())?;
-        assert_eq!(&rt; sent.as_slice(), b"\n".as_slice(), "{made:?}");
+    for row in ROWS {
+        gives_itself(&rt, row)?;
     }
     Ok(())
 }
