@@ -66,7 +66,7 @@ test:
 		'tests/transcripts.py bin/typetool 1000' \
 		'tests/state_text.py bin/typetool 1000' \
 		'tests/state_drawn.py bin/typetool 100 20' \
-		'tests/cuts.py bin/typetool 1000' \
+		'tests/cuts.py bin/typetool 100' \
 		'tests/today_recordings.py bin/typetool' \
 		'tests/linear.py bin/typetool' \
 		'tests/pictures.py bin/typetool' \
