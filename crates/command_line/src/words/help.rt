@@ -194,8 +194,8 @@ const FIND_DETAILS: &str =
 const PAGE_DETAILS: &str =
     "One file for a browser, which needs nothing else and fetches nothing. It plays, pauses and seeks, steps\n\
     from chunk to chunk, cuts idle time, finds a text on the screen, and copies what stands there. It holds\n\
-    what this terminal shows after each chunk. In the address, #t=12.5 is a moment and #n=70 the screen\n\
-    after 70 chunks.\n\n\
+    what this terminal shows after each chunk. In the address, #t=12.5 is a moment, #n=70 the screen\n\
+    after 70 chunks, and #chunk=69 the one after the chunk that find and changes call 69.\n\n\
     Example: typetool page demo.script demo.timing >demo.html\n\n\
     The long form: man typetool";
 
