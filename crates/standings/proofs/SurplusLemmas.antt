@@ -70,6 +70,26 @@ take_none_off row rows places each k all now left lt fails begins so_far =
     omega (arith, rw (other_left row (left_of rows (place_at places k)) left fails begins) at one) in
     so_far ∙ ap (λ m. all - each * m) (sym none)
 
+-- and none, where nothing is left of its left part
+pub take_spent_off : (row counts was : List ℕ) (rows : List Row) (places : List Place) (each k : ℕ) (left : List ℕ) → k < length places
+    → (starts_with nat_eq row (left_of rows (place_at places k)) ≡ true → for_left counts (left_of rows (place_at places k)) ≡ 0)
+    → starts_with nat_eq row left ≡ true
+    → for_left counts left ≡ for_left was left - each * count_left rows (take k places) left
+    → for_left counts left ≡ for_left was left - each * count_left rows (take (k + 1) places) left
+take_spent_off row counts was rows places each k left lt spent begins so_far =
+    let here = left_of rows (place_at places k) in
+    let one = counted rows places k left lt in
+    let n = count_left rows (take k places) left in
+    elim (cases_Bool (pointwise nat_eq here left)) [
+      | inl t ↦
+          let same : here ≡ left = same_left here left t in
+          let none : for_left counts left ≡ 0 = ap (for_left counts) (sym same) ∙ spent (ap (starts_with nat_eq row) same ∙ begins) in
+          omega (arith, none, so_far, off_more (for_left was left) each n, ap (λ m. for_left was left - each * m) (rw t at one))
+      | inr f ↦
+          let same : count_left rows (take (k + 1) places) left ≡ n = omega (arith, rw f at one) in
+          so_far ∙ ap (λ m. for_left was left - each * m) (sym same)
+    ]
+
 -- ---- taken off from the last place on, where those behind place k are those from the next one on
 
 -- where some are left
@@ -87,31 +107,23 @@ last_off row counts was rows places k next len value left lt is_next room many b
       | inr f ↦ omega (arith, rw f at step, rw f at one, so_far, behind)
     ]
 
--- where none is
-pub last_spent : (row counts was : List ℕ) (rows : List Row) (places : List Place) (k next len : ℕ) (left : List ℕ) → k < length places → next ≡ k + 1
-    → len ≡ length (left_of rows (place_at places k))
-    → get_or counts len 0 ≡ 0 → for_left counts left ≡ for_left was left - count_left rows (drop next places) left
+-- where none is, or the row doesn't begin so
+pub last_spent : (row counts was : List ℕ) (rows : List Row) (places : List Place) (k next : ℕ) (left : List ℕ) → k < length places → next ≡ k + 1
+    → (starts_with nat_eq row (left_of rows (place_at places k)) ≡ true → for_left counts (left_of rows (place_at places k)) ≡ 0)
+    → starts_with nat_eq row left ≡ true
+    → for_left counts left ≡ for_left was left - count_left rows (drop next places) left
     → for_left counts left ≡ for_left was left - count_left rows (drop k places) left
-last_spent row counts was rows places k next len left lt is_next many none so_far =
+last_spent row counts was rows places k next left lt is_next spent begins so_far =
     let here = left_of rows (place_at places k) in
     let one = counted_from rows places k left lt in
     let behind = ap (λ n. count_left rows (drop n places) left) is_next in
     elim (cases_Bool (pointwise nat_eq here left)) [
       | inl t ↦
-          let at : get_or counts len 0 ≡ for_left counts left = ap (λ n. get_or counts n 0) (many ∙ ap length (same_left here left t)) in
-          omega (arith, rw t at one, so_far, behind, at, none)
+          let same : here ≡ left = same_left here left t in
+          let none : for_left counts left ≡ 0 = ap (for_left counts) (sym same) ∙ spent (ap (starts_with nat_eq row) same ∙ begins) in
+          omega (arith, rw t at one, so_far, behind, none)
       | inr f ↦ omega (arith, rw f at one, so_far, behind)
     ]
-
--- where the row doesn't begin so
-pub last_other : (row : List ℕ) (rows : List Row) (places : List Place) (k next all now : ℕ) (left : List ℕ) → k < length places → next ≡ k + 1
-    → starts_with nat_eq row (left_of rows (place_at places k)) ≡ false → starts_with nat_eq row left ≡ true
-    → now ≡ all - count_left rows (drop next places) left
-    → now ≡ all - count_left rows (drop k places) left
-last_other row rows places k next all now left lt is_next fails begins so_far =
-    let one = counted_from rows places k left lt in
-    let behind = ap (λ n. count_left rows (drop n places) left) is_next in
-    omega (arith, rw (other_left row (left_of rows (place_at places k)) left fails begins) at one, so_far, behind)
 
 -- ---- whether place k is among the last so many
 
@@ -135,8 +147,17 @@ is_told row counts was rows places k next len lt is_next many begins so_far =
           ∙ sym (lt-leb 1 (get_or counts len 0) (omega (arith, none)))
     ])
 
-pub not_told : (row was : List ℕ) (rows : List Row) (places : List Place) (k : ℕ) → starts_with nat_eq row (left_of rows (place_at places k)) ≡ false → is_last row rows places was k ≡ false
-not_told row was rows places k fails = rw fails refl
+pub not_told : (row counts was : List ℕ) (rows : List Row) (places : List Place) (k next : ℕ) → k < length places → next ≡ k + 1
+    → (starts_with nat_eq row (left_of rows (place_at places k)) ≡ true → for_left counts (left_of rows (place_at places k)) ≡ 0)
+    → ((left : List ℕ) → starts_with nat_eq row left ≡ true → for_left counts left ≡ for_left was left - count_left rows (drop next places) left)
+    → is_last row rows places was k ≡ false
+not_told row counts was rows places k next lt is_next spent so_far =
+    let here = left_of rows (place_at places k) in
+    elim (cases_Bool (starts_with nat_eq row here)) [
+      | inl begins ↦
+          is_told row counts was rows places k next (length here) lt is_next refl begins so_far ∙ ap (nat_le 1) (spent begins)
+      | inr fails ↦ rw fails refl
+    ]
 
 -- ---- what is told, a place further
 

@@ -322,7 +322,7 @@ fn count_lefts(row: &[char], rows: &[Row], places: &[Place], counts: &mut [usize
     ensures { (left : List ℕ) → starts_with nat_eq row.now left ≡ true
         → for_left counts.new left ≡ count_left rows.now places.now left }
 {
-    let mut agreed = Agreed::with(row, rows, 0);
+    let mut agreed = Agreed::with_none(row, rows);
     for place in places {
         if let Some(len) = agreed.len_left(row, rows, *place) {
             counts[len] += 1;
@@ -336,9 +336,9 @@ fn take_off(row: &[char], rows: &[Row], places: &[Place], each: usize, counts: &
     ensures { (left : List ℕ) → starts_with nat_eq row.now left ≡ true
         → for_left counts.new left ≡ for_left counts.old left - each * count_left rows.now places.now left }
 {
-    let mut agreed = Agreed::with(row, rows, 0);
+    let mut agreed = Agreed::with_none(row, rows);
     for place in places {
-        if let Some(len) = agreed.len_left(row, rows, *place) {
+        if let Some(len) = agreed.len_some(row, rows, *place, counts) {
             counts[len] = counts[len].saturating_sub(each);
         }
     }
@@ -357,15 +357,13 @@ fn tell_last(row: &[char], still: &Standing, surplus: &mut [usize], told: &mut [
         return;
     }
     let rows = still.rows.as_slice();
-    let mut agreed = Agreed::with(row, rows, 0);
+    let mut agreed = Agreed::with_none(row, rows);
     let mut at = still.places.len();
     while at > 0 {
         at -= 1;
-        if let Some(len) = agreed.len_left(row, rows, still.places[at]) {
-            if surplus[len] > 0 {
-                surplus[len] -= 1;
-                told[at] = true;
-            }
+        if let Some(len) = agreed.len_some(row, rows, still.places[at], surplus) {
+            surplus[len] -= 1;
+            told[at] = true;
         }
     }
 }
@@ -387,6 +385,18 @@ impl Agreed {
         Agreed { above, count }
     }
 
+    /// That of a row and none, behind the last: nothing was compared yet.
+    fn with_none(row: &[char], rows: &[Row]) -> Self
+        ensures { Agree row.now (row_below rows.now result.above).characters result.count }
+    {
+        // Whatever a row is, it begins with nothing.
+        let _unread = row.len();
+        Agreed {
+            above: rows.len(),
+            count: 0,
+        }
+    }
+
     /// How many characters stand left of a place, if a row begins with these. It is compared with the place's row where
     /// that is another one than the last time.
     #[inline(always)]
@@ -402,5 +412,29 @@ impl Agreed {
         }
         let len = left_of(rows, place).len();
         if len <= self.count { Some(len) } else { None }
+    }
+
+    /// The same where some are left of such a left part, by a list of how many. Mostly none is, and then no rows are compared.
+    #[inline(always)]
+    fn len_some(
+        &mut self,
+        row: &[char],
+        rows: &[Row],
+        place: Place,
+        counts: &[usize],
+    ) -> Option<usize>
+        requires { Agree row.now (row_below rows.now self.old.above).characters self.old.count }
+        ensures agree { Agree row.now (row_below rows.now self.new.above).characters self.new.count }
+        ensures some { IfSome result (λ len. (len ≡ length (left_of rows.now place))
+            × (starts_with nat_eq row.now (left_of rows.now place) ≡ true)) }
+        ensures more { IfSome result (λ len. 0 < slice_index_or counts.now len 0) }
+        ensures none { result ≡ None → starts_with nat_eq row.now (left_of rows.now place) ≡ true
+            → for_left counts.now (left_of rows.now place) ≡ 0 }
+    {
+        let len = left_of(rows, place).len();
+        if len < counts.len() && counts[len] > 0 {
+            return self.len_left(row, rows, place);
+        }
+        None
     }
 }

@@ -3,7 +3,7 @@ use Rattle.std.proofs.lemmas.List.{take_all}
 use Rattle.standings.specs.Less.{for_left}
 use Rattle.standings.specs.Standing.{count_left, left_of, place_at}
 use Rattle.standings.proofs.LeftLemmas.{front_fits}
-use Rattle.standings.proofs.SurplusLemmas.{take_more_off, take_none_off}
+use Rattle.standings.proofs.SurplusLemmas.{take_more_off, take_spent_off}
 use Rattle.standings.proofs.less.take_off.Goals as goal
 use Rattle.standings.proofs.less.take_off.Goals.{in-Some, in_default}
 
@@ -16,8 +16,8 @@ loop-place-preserved c =
     let was = c.args.counts.now in
     let k = c.loop-place.place-index in
     record {
-      agree = c.len_left.ensures.agree;
-      left = λ left begins. elim c.match-len_left.branch [
+      agree = c.len_some.ensures.agree;
+      left = λ left begins. elim c.match-len_some.branch [
         | in-Some w ↦
             let here = w.in-Some.ensures.some in
             ap (λ l. for_left l left) w.counts-is
@@ -26,7 +26,7 @@ loop-place-preserved c =
             here.0 here.1 begins w.saturating_sub.ensures (c.loop-place.invariant.left left begins)
         | in_default w ↦
             ap (λ l. for_left l left) w.counts-is
-            ∙ take_none_off row rows places c.args.each k (for_left was left) (for_left counts left) left c.loop-place-test.true
+            ∙ take_spent_off row counts was rows places c.args.each k left c.loop-place-test.true
             (w.in_default.ensures.none refl) begins (c.loop-place.invariant.left left begins)
       ];
     }

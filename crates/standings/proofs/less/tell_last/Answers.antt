@@ -1,12 +1,12 @@
 use Rattle.std.proofs.Common.{◌≡◌, ◌+◌, ◌-◌, ◌<◌, ◌∙◌, ◌&&◌, ◌||◌, ap, arith, false, get_or, length, nat_eq, refl, sym, true}
 use Rattle.std.specs.List.{starts_with}
-use Rattle.std.proofs.lemmas.Bool.{le-leb, lt-leb}
+use Rattle.std.proofs.lemmas.Bool.{le-leb}
 use Rattle.std.proofs.lemmas.List.{get_or_default}
 use Rattle.standings.specs.Less.{for_left, is_last}
 use Rattle.standings.specs.Standing.{left_of, place_at, place_in}
 use Rattle.standings.specs.declared.place.Place.{Place}
 use Rattle.standings.proofs.LeftLemmas.{front_fits}
-use Rattle.standings.proofs.SurplusLemmas.{is_told, last_off, last_other, last_spent, none_told, not_told, told_more, told_same}
+use Rattle.standings.proofs.SurplusLemmas.{is_told, last_off, last_spent, none_told, not_told, told_more, told_same}
 use Rattle.standings.proofs.less.tell_last.Goals as goal
 
 pub returns-then-is_spent : goal.returns-then-is_spent
@@ -14,8 +14,8 @@ returns-then-is_spent c = λ n lt.
     none_told c.args.row.now c.args.surplus.now c.args.still.now.rows.items c.args.still.now.places.items (get_or c.args.told.now n false) n lt
     (c.is_spent.ensures.none c.if-is_spent.true)
 
-pub loop-at-preserved-then-surplus-len-gt0 : goal.loop-at-preserved-then-surplus-len-gt0
-loop-at-preserved-then-surplus-len-gt0 c =
+pub loop-at-preserved-in-Some : goal.loop-at-preserved-in-Some
+loop-at-preserved-in-Some c =
     let row = c.args.row.now in
     let rows = c.as_slice-rows.result.now in
     let places = c.args.still.now.places.items in
@@ -31,36 +31,12 @@ loop-at-preserved-then-surplus-len-gt0 c =
     let begins : starts_with nat_eq row (left_of rows (place_at places k)) ≡ true = ap (λ (p : Place). starts_with nat_eq row (left_of rows p)) place ∙ c.in-Some.ensures.some.1 in
     record {
       within = omega (arith, lt);
-      agree = c.len_left.ensures.agree;
+      agree = c.len_some.ensures.agree;
       left = λ left begins'. last_off row counts was rows places k next len (get_or counts len 0 - 1) left lt is_next
           (omega (arith, many, front_fits row (left_of rows (place_at places k)) begins, c.requires.surplus, c.loop-at.auto.surplus))
           many begins begins' refl (c.loop-at.invariant.left left begins');
       told = λ n lt'. told_more c.loop-at.told c.args.told.now (is_last row rows places was) k next n is_next (omega (arith, lt, c.requires.told, c.loop-at.auto.told))
-          (is_told row counts was rows places k next len lt is_next many begins c.loop-at.invariant.left ∙ le-leb 1 (get_or counts len 0) (omega (arith, c.if-surplus-len-gt0.true)))
-          (c.loop-at.invariant.told n lt');
-    }
-
-pub loop-at-preserved-else-surplus-len-gt0 : goal.loop-at-preserved-else-surplus-len-gt0
-loop-at-preserved-else-surplus-len-gt0 c =
-    let row = c.args.row.now in
-    let rows = c.as_slice-rows.result.now in
-    let places = c.args.still.now.places.items in
-    let counts = c.loop-at.surplus in
-    let was = c.args.surplus.now in
-    let next = c.loop-at.at in
-    let k = next - 1 in
-    let len = c.in-Some.len in
-    let is_next : next ≡ k + 1 = omega (arith, c.loop-at-test.true) in
-    let lt : k < length places = omega (arith, c.loop-at-test.true, c.loop-at.invariant.within) in
-    let place : place_at places k ≡ c.index.result.now = get_or_default places k (place_in 0 0) c.index.result.now lt ∙ sym c.index.ensures in
-    let many : len ≡ length (left_of rows (place_at places k)) = c.in-Some.ensures.some.0 ∙ ap (λ (p : Place). length (left_of rows p)) (sym place) in
-    let begins : starts_with nat_eq row (left_of rows (place_at places k)) ≡ true = ap (λ (p : Place). starts_with nat_eq row (left_of rows p)) place ∙ c.in-Some.ensures.some.1 in
-    record {
-      within = omega (arith, lt);
-      agree = c.len_left.ensures.agree;
-      left = λ left begins'. last_spent row counts was rows places k next len left lt is_next many (omega (arith, c.if-surplus-len-gt0.false)) (c.loop-at.invariant.left left begins');
-      told = λ n lt'. told_same c.loop-at.told c.args.told.now (is_last row rows places was) k next n is_next
-          (is_told row counts was rows places k next len lt is_next many begins c.loop-at.invariant.left ∙ lt-leb 1 (get_or counts len 0) (omega (arith, c.if-surplus-len-gt0.false)))
+          (is_told row counts was rows places k next len lt is_next many begins c.loop-at.invariant.left ∙ le-leb 1 (get_or counts len 0) c.in-Some.ensures.more)
           (c.loop-at.invariant.told n lt');
     }
 
@@ -76,13 +52,15 @@ loop-at-preserved c =
     let is_next : next ≡ k + 1 = omega (arith, c.loop-at-test.true) in
     let lt : k < length places = omega (arith, c.loop-at-test.true, c.loop-at.invariant.within) in
     let place : place_at places k ≡ c.index.result.now = get_or_default places k (place_in 0 0) c.index.result.now lt ∙ sym c.index.ensures in
-    let fails : starts_with nat_eq row (left_of rows (place_at places k)) ≡ false =
-    ap (λ (p : Place). starts_with nat_eq row (left_of rows p)) place ∙ c.in_default.ensures.none refl in
+    let spent : starts_with nat_eq row (left_of rows (place_at places k)) ≡ true → for_left counts (left_of rows (place_at places k)) ≡ 0 = λ begins.
+    ap (λ (p : Place). for_left counts (left_of rows p)) place
+    ∙ c.in_default.ensures.none refl (ap (λ (p : Place). starts_with nat_eq row (left_of rows p)) (sym place) ∙ begins) in
     record {
       within = omega (arith, lt);
-      agree = c.len_left.ensures.agree;
-      left = λ left begins'. last_other row rows places k next (for_left was left) (for_left counts left) left lt is_next fails begins' (c.loop-at.invariant.left left begins');
-      told = λ n lt'. told_same c.loop-at.told c.args.told.now (is_last row rows places was) k next n is_next (not_told row was rows places k fails) (c.loop-at.invariant.told n lt');
+      agree = c.len_some.ensures.agree;
+      left = λ left begins'. last_spent row counts was rows places k next left lt is_next spent begins' (c.loop-at.invariant.left left begins');
+      told = λ n lt'. told_same c.loop-at.told c.args.told.now (is_last row rows places was) k next n is_next
+          (not_told row counts was rows places k next lt is_next spent c.loop-at.invariant.left) (c.loop-at.invariant.told n lt');
     }
 
 pub returns : goal.returns
