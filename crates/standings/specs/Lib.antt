@@ -10,3 +10,4 @@ pub mod Near
 pub mod Room
 pub mod Follow
 pub mod Less
+pub mod Lines

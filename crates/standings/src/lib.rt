@@ -17,7 +17,7 @@ pub use alone::Alone;
 pub use lag::Lag;
 pub use left::{Standing, ends_before, is_less, is_lone, stays_moved};
 pub use less::{Less, Passed, may_pass};
-pub use line::{Moment, put_found};
+pub use line::{Lines, Moment};
 pub use place::{Place, standing};
 pub use row::Row;
 pub use span::Span;

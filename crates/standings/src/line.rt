@@ -1,9 +1,12 @@
 //! How what is found is written.
 
-ghost use Rattle.std.specs.Prelude.{◌≡◌, ◌+◌, ◌==◌, ◌≤◌, ◌++◌, ◌∷◌, [], encode_utf8, drop, length, true, IfOk, OnOk, OnErr};
+ghost use Rattle.std.specs.Prelude.{◌≡◌, ◌+◌, ◌==◌, ◌≤◌, ◌++◌, ◌∷◌, [], List, decimal, encode_utf8, drop, length, true, IfOk, OnOk, OnErr};
 ghost use Rattle.std.specs.List.{flat_map, suffix_len};
 ghost use Rattle.held.specs.Held.{Wrote};
 ghost use Rattle.tape_core.specs.Devices.{Gave};
+ghost use Rattle.tape_core.specs.Written.{seconds_form};
+ghost use Rattle.standings.specs.Lines.{AreReady, row_spelled};
+ghost use Rattle.standings.specs.Rows.{Row};
 ghost use Rattle.standings.specs.Found.{column_of, found_line, found_rows, heading, line_of, rows_reaching};
 
 use crate::place::Place;
@@ -14,10 +17,13 @@ use itoa::Buffer;
 use std::alloc::{AllocError, Global};
 use std::io::Write;
 use tape_core::laws::gives_join;
-use tape_core::{Watched, seconds_text};
+use tape_core::{SecondsText, Watched, seconds_text};
 
 /// How many characters of a row are put together at a time.
 const TOGETHER: usize = 16;
+
+/// How many bytes of a row are known at most: those of 160 columns, whatever stands there.
+const ROOM: usize = 640;
 
 /// A chunk's place, when it is due, and how long the text is that is looked for.
 #[derive(Clone, Copy, Debug)]
@@ -27,26 +33,144 @@ pub struct Moment {
     pub len: usize,
 }
 
-/// Writes a find line, all at once but for a long one. Where memory is refused, nothing was written.
-pub fn put_found<W: Write>(
-    alloc: Global,
-    sign: u8,
-    moment: Moment,
-    rows: &[Row],
-    place: Place,
-    writer: &mut Watched<W>,
-) -> Result<(), AllocError>
-    ensures gave { OnOk result (Gave W.contents writer.old writer.new
-        (found_line sign moment.index moment.due moment.len rows.now place)) }
-    ensures refused { OnErr result (writer.new ≡ writer.old) }
-{
-    let row = characters_below(rows, place.above);
-    if ends_within(row, place.before, moment.len) {
-        let count = unspaced_len(row);
-        put_line(sign, moment, rows, place, &row[..count], writer);
-        return Ok(());
+/// What the lines of a moment share: when it is due, as text, and the row of the last one, in UTF-8.
+#[derive(Drop)]
+pub struct Lines {
+    pub moment: Moment,
+    due: SecondsText,
+    held: ArrayVec<u8, HELD>,
+    known: bool,
+    above: usize,
+    text: ArrayVec<u8, ROOM>,
+}
+
+impl Lines {
+    /// Those of a moment. No row is known yet.
+    pub fn of(moment: Moment) -> Self
+        ensures moment { result.moment ≡ moment }
+        ensures ready { (rows : List Row) → AreReady result rows }
+    {
+        Lines {
+            moment,
+            due: seconds_text(moment.due),
+            held: ArrayVec::new(),
+            known: false,
+            above: 0,
+            text: ArrayVec::new(),
+        }
     }
-    put_joined(alloc, sign, moment, rows, place, writer)
+
+    /// Writes the find line of a place, all at once but for a long one. Where memory is refused, nothing was written.
+    pub fn put<W: Write>(
+        &mut self,
+        alloc: Global,
+        sign: u8,
+        rows: &[Row],
+        place: Place,
+        writer: &mut Watched<W>,
+    ) -> Result<(), AllocError>
+        requires { AreReady self.old rows.now }
+        ensures gave { OnOk result (Gave W.contents writer.old writer.new
+            (found_line sign self.old.moment.index self.old.moment.due self.old.moment.len rows.now place)) }
+        ensures refused { OnErr result (writer.new ≡ writer.old) }
+        ensures ready { AreReady self.new rows.now }
+        ensures moment { self.new.moment ≡ self.old.moment }
+    {
+        let row = characters_below(rows, place.above);
+        if !ends_within(row, place.before, self.moment.len) {
+            return put_joined(alloc, sign, self.moment, rows, place, writer);
+        }
+        if !self.know(rows, place.above) {
+            let count = unspaced_len(row);
+            put_line(sign, self.moment, rows, place, &row[..count], writer);
+            return Ok(());
+        }
+        put_spelled(
+            sign,
+            self.moment,
+            &self.due,
+            place.above,
+            column_below(rows, place.above, place.before),
+            self.text.as_slice(),
+            &mut self.held,
+            writer,
+        );
+        Ok(())
+    }
+
+    /// Spells the row below so many others, if it isn't the one that is known; says whether it is known then.
+    fn know(&mut self, rows: &[Row], above: usize) -> bool
+        requires { AreReady self.old rows.now }
+        ensures ready { AreReady self.new rows.now }
+        ensures text { result ≡ true → self.new.text.items ≡ row_spelled rows.now above }
+        ensures moment { self.new.moment ≡ self.old.moment }
+    {
+        if self.known && self.above == above {
+            return true;
+        }
+        let row = characters_below(rows, above);
+        self.text.clear();
+        self.above = above;
+        self.known = spell_row(&row[..unspaced_len(row)], &mut self.text);
+        self.known
+    }
+}
+
+/// The text becomes that of a row in UTF-8; says whether there was room.
+fn spell_row(chars: &[char], text: &mut ArrayVec<u8, ROOM>) -> bool
+    requires { text.old.items ≡ [] }
+    ensures { result ≡ true → text.new.items ≡ flat_map encode_utf8 chars.now }
+{
+    // A row for which there is too little room is mostly a long one, which is seen at once.
+    if chars.len() > ROOM {
+        return false;
+    }
+    let mut at = 0;
+    while at < chars.len() {
+        let count = TOGETHER.min(chars.len() - at);
+        if !spell_some(&chars[at..at + count], text) {
+            return false;
+        }
+        at += count;
+    }
+    true
+}
+
+/// Puts some characters in UTF-8 behind a text, if there is room: at once, where each is a byte.
+fn spell_some(chars: &[char], text: &mut ArrayVec<u8, ROOM>) -> bool
+    requires { length chars.now ≤ TOGETHER }
+    ensures { result ≡ true → text.new.items ≡ text.old.items ++ flat_map encode_utf8 chars.now }
+{
+    let mut bytes = [0; TOGETHER];
+    let bytes = &mut bytes[..chars.len()];
+    if spell(chars, bytes) {
+        return text.try_extend_from_slice(bytes).is_ok();
+    }
+    spell_each(chars, text)
+}
+
+/// The same one by one.
+fn spell_each(chars: &[char], text: &mut ArrayVec<u8, ROOM>) -> bool
+    ensures { result ≡ true → text.new.items ≡ text.old.items ++ flat_map encode_utf8 chars.now }
+{
+    for character in chars {
+        if !spell_one(*character, text) {
+            return false;
+        }
+    }
+    true
+}
+
+/// The same of one, which mostly is a byte.
+#[inline]
+fn spell_one(character: char, text: &mut ArrayVec<u8, ROOM>) -> bool
+    ensures { result ≡ true → text.new.items ≡ text.old.items ++ encode_utf8 character }
+{
+    if (character as u32) < 128 {
+        return text.try_push(character as u8).is_ok();
+    }
+    text.try_extend_from_slice(character.encode_utf8(&mut [0; 4]).as_bytes())
+        .is_ok()
 }
 
 /// Whether so many characters behind so many others are all in a row.
@@ -89,41 +213,77 @@ fn put_line<W: Write>(
 {
     gives_join::<W>();
     let column = column_below(rows, place.above, place.before);
+    let due = seconds_text(moment.due);
     let mut held = ArrayVec::new();
-    put_heading(
-        sign,
-        moment,
-        place.above as u128 + 1,
-        column,
-        &mut held,
-        writer,
-    );
+    put_heading(sign, moment, &due, place.above, column, &mut held, writer);
     put_chars(text, &mut held, writer);
     put_byte(b'\n', &mut held, writer);
     let_out(&mut held, writer);
+}
+
+/// Writes the line of a column of the row below so many others, with these bytes.
+fn put_spelled<W: Write>(
+    sign: u8,
+    moment: Moment,
+    due: &SecondsText,
+    above: usize,
+    column: u16,
+    text: &[u8],
+    held: &mut ArrayVec<u8, HELD>,
+    writer: &mut Watched<W>,
+)
+    requires due { due.now ≡ seconds_form moment.due }
+    requires held { held.old.items ≡ [] }
+    ensures gave { Gave W.contents writer.old writer.new
+        (heading sign moment.index moment.due (above + 1) column ++ text.now ++ 10 ∷ []) }
+    ensures held { held.new.items ≡ [] }
+{
+    gives_join::<W>();
+    put_heading(sign, moment, due, above, column, held, writer);
+    put(text, held, writer);
+    put_byte(b'\n', held, writer);
+    let_out(held, writer);
 }
 
 /// Writes what stands before the rows: the sign, the chunk's place, when it is due, and the place.
 fn put_heading<W: Write>(
     sign: u8,
     moment: Moment,
-    line: u128,
+    due: &SecondsText,
+    above: usize,
     column: u16,
     held: &mut ArrayVec<u8, HELD>,
     writer: &mut Watched<W>,
 )
+    requires { due.now ≡ seconds_form moment.due }
     ensures { Wrote W.contents writer.old held.old.items writer.new held.new.items
-        (heading sign moment.index moment.due line column) }
+        (heading sign moment.index moment.due (above + 1) column) }
 {
     put(&[sign, b' '], held, writer);
     put_number(moment.index, held, writer);
     put_byte(b' ', held, writer);
-    put(seconds_text(moment.due).as_bytes(), held, writer);
+    put(due.as_bytes(), held, writer);
     put_byte(b' ', held, writer);
-    put(Buffer::new().format(line).as_bytes(), held, writer);
+    put_next(above, held, writer);
     put_byte(b' ', held, writer);
     put_number(column as usize, held, writer);
     put_byte(b' ', held, writer);
+}
+
+/// Writes the number behind one, which mostly is small.
+fn put_next<W: Write>(number: usize, held: &mut ArrayVec<u8, HELD>, writer: &mut Watched<W>)
+    ensures { Wrote W.contents writer.old held.old.items writer.new held.new.items
+        (decimal (number + 1)) }
+{
+    if number < usize::MAX {
+        put_number(number + 1, held, writer);
+    } else {
+        put(
+            Buffer::new().format(number as u128 + 1).as_bytes(),
+            held,
+            writer,
+        );
+    }
 }
 
 /// The rows of a found text of so many characters, joined, without the spaces at their end.

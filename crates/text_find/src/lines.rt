@@ -4,6 +4,7 @@ ghost use Rattle.std.specs.Prelude.{◌≡◌, ◌<◌, ◌++◌, [], List, ℕ,
 ghost use Rattle.standings.specs.Found.{found_line};
 ghost use Rattle.standings.specs.Lag.{Lags};
 ghost use Rattle.standings.specs.Less.{ArePassed, HasAll, HasEach, IsTold, PairOff};
+ghost use Rattle.standings.specs.Lines.{AreReady};
 ghost use Rattle.standings.specs.Rows.{Row};
 ghost use Rattle.standings.specs.Standing.{place_at};
 ghost use Rattle.standings.specs.declared.place.Place.{Place};
@@ -12,7 +13,7 @@ ghost use Rattle.text_find.specs.Lines.{AreBetween, Began, IsStill, end_lines, f
 
 use crate::sides::Sides;
 use plays::OutOfMemory;
-use standings::{Alone, Lag, Less, Moment, Passed, Standing, may_pass, put_found};
+use standings::{Alone, Lag, Less, Lines, Moment, Passed, Standing, may_pass};
 use std::alloc::Global;
 use std::io::Write;
 use tape_core::Watched;
@@ -57,8 +58,9 @@ fn put_standing<W: Write>(
         (standing_lines moment.len moment.index moment.due still.now.rows.items still.now.places.items)) }
 {
     gives_join::<W>();
+    let mut lines = Lines::of(moment);
     for at in 0..still.places.len() {
-        put_at(alloc, b'=', moment, still, at, writer)?;
+        put_at(alloc, b'=', &mut lines, still, at, writer)?;
     }
     Ok(())
 }
@@ -67,25 +69,21 @@ fn put_standing<W: Write>(
 fn put_at<W: Write>(
     alloc: Global,
     sign: u8,
-    moment: Moment,
+    lines: &mut Lines,
     still: &Standing,
     at: usize,
     writer: &mut Watched<W>,
 ) -> Result<(), OutOfMemory>
-    requires { at < length still.now.places.items }
+    requires within { at < length still.now.places.items }
+    requires ready { AreReady lines.old still.now.rows.items }
     ensures gave { OnOk result (Gave W.contents writer.old writer.new
-        (found_line sign moment.index moment.due moment.len
+        (found_line sign lines.old.moment.index lines.old.moment.due lines.old.moment.len
         still.now.rows.items (place_at still.now.places.items at))) }
     ensures refused { OnErr result (writer.new ≡ writer.old) }
+    ensures ready { AreReady lines.new still.now.rows.items }
+    ensures moment { lines.new.moment ≡ lines.old.moment }
 {
-    put_found(
-        alloc,
-        sign,
-        moment,
-        still.rows.as_slice(),
-        still.places[at],
-        writer,
-    )?;
+    lines.put(alloc, sign, still.rows.as_slice(), still.places[at], writer)?;
     Ok(())
 }
 
@@ -238,8 +236,9 @@ fn put_told<W: Write>(
         one.now.rows.items one.now.places.items other.now.rows.items other.now.places.items)) }
 {
     gives_join::<W>();
+    let mut lines = Lines::of(moment);
     for at in 0..one.places.len() {
-        put_if_less(alloc, sign, moment, one, at, other, less, writer)?;
+        put_if_less(alloc, sign, &mut lines, one, at, other, less, writer)?;
     }
     Ok(())
 }
@@ -249,7 +248,7 @@ fn put_told<W: Write>(
 fn put_if_less<W: Write>(
     alloc: Global,
     sign: u8,
-    moment: Moment,
+    lines: &mut Lines,
     one: &Standing,
     at: usize,
     other: &Standing,
@@ -258,16 +257,19 @@ fn put_if_less<W: Write>(
 ) -> Result<(), OutOfMemory>
     requires within { at < length one.now.places.items }
     requires all { HasAll less.now (length one.now.places.items) }
+    requires ready { AreReady lines.old one.now.rows.items }
     ensures gave { IsTold less.now one.now.rows.items one.now.places.items
         other.now.rows.items other.now.places.items
         → OnOk result (Gave W.contents writer.old writer.new
-        (less_line sign moment.index moment.due moment.len
+        (less_line sign lines.old.moment.index lines.old.moment.due lines.old.moment.len
         one.now.rows.items one.now.places.items other.now.rows.items other.now.places.items at)) }
     ensures refused { OnErr result (writer.new ≡ writer.old) }
+    ensures ready { AreReady lines.new one.now.rows.items }
+    ensures moment { lines.new.moment ≡ lines.old.moment }
 {
     gives_join::<W>();
     if less.has(one, at, other) {
-        put_at(alloc, sign, moment, one, at, writer)?;
+        put_at(alloc, sign, lines, one, at, writer)?;
     }
     Ok(())
 }
@@ -387,8 +389,9 @@ fn put_told_passed<W: Write>(
         one.now.rows.items one.now.places.items other.now.rows.items other.now.places.items)) }
 {
     gives_join::<W>();
+    let mut lines = Lines::of(moment);
     for at in 0..one.places.len() {
-        put_if_passed(alloc, moment, ends, one, at, other, passed, writer)?;
+        put_if_passed(alloc, &mut lines, ends, one, at, other, passed, writer)?;
     }
     Ok(())
 }
@@ -398,7 +401,7 @@ fn put_told_passed<W: Write>(
 #[inline(always)]
 fn put_if_passed<W: Write>(
     alloc: Global,
-    moment: Moment,
+    lines: &mut Lines,
     ends: &Sides,
     one: &Standing,
     at: usize,
@@ -408,19 +411,22 @@ fn put_if_passed<W: Write>(
 ) -> Result<(), OutOfMemory>
     requires within { at < length one.now.places.items }
     requires all { HasEach passed.now (length one.now.places.items) }
+    requires ready { AreReady lines.old one.now.rows.items }
     ensures gave { ArePassed passed.now ends.now.before.rows.items ends.now.before.places.items
         ends.now.after.rows.items ends.now.after.places.items
         one.now.rows.items one.now.places.items other.now.rows.items other.now.places.items
         → OnOk result (Gave W.contents writer.old writer.new
-        (passed_line moment.index moment.due moment.len
+        (passed_line lines.old.moment.index lines.old.moment.due lines.old.moment.len
         ends.now.before.rows.items ends.now.before.places.items
         ends.now.after.rows.items ends.now.after.places.items
         one.now.rows.items one.now.places.items other.now.rows.items other.now.places.items at)) }
     ensures refused { OnErr result (writer.new ≡ writer.old) }
+    ensures ready { AreReady lines.new one.now.rows.items }
+    ensures moment { lines.new.moment ≡ lines.old.moment }
 {
     gives_join::<W>();
     if passed.has(&ends.before, &ends.after, one, at, other) {
-        put_at(alloc, b'~', moment, one, at, writer)?;
+        put_at(alloc, b'~', lines, one, at, writer)?;
     }
     Ok(())
 }

@@ -1,4 +1,4 @@
-use Rattle.std.proofs.Common.{◌≡◌, ℕ, List, [], ◌∷◌, ◌++◌, ◌∙◌, ap₂, subst}
+use Rattle.std.proofs.Common.{◌≡◌, ◌+◌, ℕ, List, [], ◌∷◌, ◌++◌, ◌∙◌, subst}
 use Rattle.std.specs.Fmt.{decimal}
 use Rattle.tape_core.specs.Written.{seconds_form}
 use Rattle.held.specs.Held.{Wrote}
@@ -11,10 +11,8 @@ returns g c =
     let m = c.args.moment in
     let front = (c.args.sign ∷ 32 ∷ []) ++ decimal m.index ++ (32 ∷ []) in
     let due = c.as_bytes.result.now in
-    let line = c.as_bytes-2.result.now in
-    let is_due : due ≡ seconds_form m.due = c.as_bytes.ensures ∙ c.seconds_text.ensures in
-    let is_line : line ≡ decimal c.args.line = c.as_bytes-2.ensures.value ∙ c.format.ensures.text in
-    subst (Wrote contents c.args.writer.now c.args.held.now.items c.put_byte-4.new.writer c.put_byte-4.new.held.items)
-    (ap₂ (λ (d l : List ℕ). front ++ d ++ (32 ∷ []) ++ l ++ (32 ∷ []) ++ decimal c.args.column ++ (32 ∷ [])) is_due is_line)
-    (wrote_both c.put_byte-4.ensures (wrote_both c.put_number-2.ensures (wrote_both c.put_byte-3.ensures (wrote_both c.put-3.ensures
+    let is_due : due ≡ seconds_form m.due = c.as_bytes.ensures ∙ c.requires in
+    subst (λ (d : List ℕ). Wrote contents c.args.writer.now c.args.held.now.items c.put_byte-4.new.writer c.put_byte-4.new.held.items
+    (front ++ d ++ (32 ∷ []) ++ decimal (c.args.above + 1) ++ (32 ∷ []) ++ decimal c.args.column ++ (32 ∷ []))) is_due
+    (wrote_both c.put_byte-4.ensures (wrote_both c.put_number-2.ensures (wrote_both c.put_byte-3.ensures (wrote_both c.put_next.ensures
     (wrote_both c.put_byte-2.ensures (wrote_both c.put-2.ensures (wrote_both c.put_byte.ensures (wrote_both c.put_number.ensures c.put.ensures))))))))

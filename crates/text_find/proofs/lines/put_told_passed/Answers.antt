@@ -1,12 +1,17 @@
-use Rattle.std.proofs.Common.{arith, length, subst, sym}
+use Rattle.std.proofs.Common.{◌∙◌, arith, length, subst, sym}
 use Rattle.std.proofs.lemmas.Result.{err_from_is_err_and}
+use Rattle.standings.specs.declared.line.Moment.{Moment}
 use Rattle.tape_core.specs.Devices.{Gave}
 use Rattle.text_find.specs.Lines.{passed_line}
 use Rattle.text_find.proofs.BeganLemmas.{began_at, began_stays, first_more}
 use Rattle.text_find.proofs.lines.put_told_passed.Goals as goal
 
 pub loop-at-init : goal.loop-at-init
-loop-at-init g c = λ told. c.gives_join.ensures.nothing c.args.writer.now
+loop-at-init g c = record {
+  gave = λ told. c.gives_join.ensures.nothing c.args.writer.now;
+  ready = c.of-lines.ensures.ready c.args.one.now.rows.items;
+  moment = c.of-lines.ensures.moment;
+}
 
 pub returns-in_err-put_if_passed-clause-front : goal.returns-in_err-put_if_passed-clause-front
 returns-in_err-put_if_passed-clause-front g c = λ told.
@@ -16,15 +21,19 @@ returns-in_err-put_if_passed-clause-front g c = λ told.
     let m = c.args.moment in
     let f = passed_line m.index m.due m.len ends.before.rows.items ends.before.places.items ends.after.rows.items ends.after.places.items one.rows.items one.places.items other.rows.items other.places.items in
     let p = err_from_is_err_and c.from_residual.result c.from_residual.ensures.1 in
-    rw p.1 (began_at g.W.Write.contents c.args.writer.now c.loop-at.writer c.put_if_passed.new.writer f c.loop-at.at (length one.places.items) (omega arith) (c.loop-at.invariant told)
+    rw p.1 (began_at g.W.Write.contents c.args.writer.now c.loop-at.writer c.put_if_passed.new.writer f c.loop-at.at (length one.places.items) (omega arith) (c.loop-at.invariant.gave told)
     (began_stays g.W.Write.contents c.loop-at.writer c.put_if_passed.new.writer (f c.loop-at.at) c.in_err-put_if_passed.ensures.refused))
 
 pub loop-at-preserved : goal.loop-at-preserved
-loop-at-preserved g c = λ told.
+loop-at-preserved g c =
     let one = c.args.one.now in
     let other = c.args.other.now in
     let ends = c.args.ends.now in
     let m = c.args.moment in
     let f = passed_line m.index m.due m.len ends.before.rows.items ends.before.places.items ends.after.rows.items ends.after.places.items one.rows.items one.places.items other.rows.items other.places.items in
-    subst (λ t. Gave g.W.Write.contents c.args.writer.now c.put_if_passed.new.writer t) (sym (first_more f c.loop-at.at))
-    (c.gives_join.ensures.both _ _ _ _ _ (c.in_ok-put_if_passed.ensures.gave told) (c.loop-at.invariant told))
+    record {
+      gave = λ told. subst (λ t. Gave g.W.Write.contents c.args.writer.now c.put_if_passed.new.writer t) (sym (first_more f c.loop-at.at))
+          (c.gives_join.ensures.both _ _ _ _ _ (subst (λ (k : Moment). Gave g.W.Write.contents c.loop-at.writer c.put_if_passed.new.writer (passed_line k.index k.due k.len ends.before.rows.items ends.before.places.items ends.after.rows.items ends.after.places.items one.rows.items one.places.items other.rows.items other.places.items c.loop-at.at)) c.loop-at.invariant.moment (c.in_ok-put_if_passed.ensures.gave told)) (c.loop-at.invariant.gave told));
+      ready = c.put_if_passed.ensures.ready;
+      moment = c.put_if_passed.ensures.moment ∙ c.loop-at.invariant.moment;
+    }
