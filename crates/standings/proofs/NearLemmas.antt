@@ -3,13 +3,13 @@ use Rattle.std.proofs.Common.{◌≡◌, ℕ, suc, ◌+◌, ◌-◌, ◌<◌, �
 use Rattle.std.specs.List.{starts_with}
 use Rattle.std.proofs.lemmas.Bool.{cases_lt}
 use Rattle.std.proofs.lemmas.List.{drop-append-le, drop-drop, drop-take, drop_at, get_or-append-add, get_or-set_other, get_or-set_same, get_or_append_left, length-append, length-drop, length-set, length-take, set-get_or, set-set, take-append-drop, take_at}
-use Rattle.standings.specs.Near.{IsCut, IsEarly, IsLate, places_part}
+use Rattle.standings.specs.Near.{IsClear, IsCut, IsEarly, IsLate, places_part}
 use Rattle.standings.specs.Rows.{Row, empty_row, row_below}
 use Rattle.standings.specs.Spans.{places_along}
 use Rattle.standings.specs.Standing.{begins, line_text, place_at, place_in, standing}
 use Rattle.standings.specs.Written.{row_written, rows_written}
 use Rattle.standings.specs.declared.place.Place.{Place}
-use Rattle.standings.proofs.FrontLemmas.{IsRewritten, begins_before, begins_behind, drop_past, line_here, rewritten}
+use Rattle.standings.proofs.FrontLemmas.{IsRewritten, begins_before, begins_behind, drop_past, leads, line_here, rewritten}
 use Rattle.standings.proofs.PlaceLemmas.{AllAre, along_parts, along_same, along_within, are_both, part_all, standing_along}
 use Rattle.standings.proofs.RowLemmas.{part_parts}
 use Rattle.standings.proofs.SpanLemmas.{first_none, line_above, line_below, never_here, part_alike, part_none, places_of, places_same, second_none}
@@ -93,10 +93,11 @@ in_parts text rows above start end m parts order within =
     ∙ ap (λ l. a ++ (l ++ e)) here ∙ in_five a b c (places_part text above line end d) e
 
 near : (text : List ℕ) (one other : List Row) (above start end : ℕ) → IsRewritten above one other → above < length one → start ≤ end → end ≤ length (row_below one above).characters
-    → length (row_below other above).characters ≡ length (row_below one above).characters → (0 < above → (row_below one (above - 1)).runs_on ≡ false)
+    → length (row_below other above).characters ≡ length (row_below one above).characters
+    → ((k : ℕ) → k < above → places_of text other k ≡ places_of text one k)
     → ((i : ℕ) → i < start → begins text (line_text (drop above other)) i ≡ begins text (line_text (drop above one)) i)
     → ((i : ℕ) → end ≤ i → begins text (line_text (drop above other)) i ≡ begins text (line_text (drop above one)) i) → IsNear text one other above start end
-near text one other above start end is lt order within long runs left right =
+near text one other above start end is lt order within long over left right =
     let m = length one - (above + 1) in
     let parts : above + suc m ≡ length one = omega arith in
     let parts' : above + suc m ≡ length other = omega (arith, is.count) in
@@ -108,9 +109,7 @@ near text one other above start end is lt order within long runs left right =
     let c = places_part text above line start (end - start) in
     let d = places_part text above line end (n - end) in
     let e = places_along text one (above + 1) m in
-    let same_above = along_same text one other above 0 (λ k _ low.
-    places_same text one other k (is.others k (λ e. omega arith))
-    (line_above one other above (above - k - 1) k (omega arith) (λ i low'. is.others i (λ e. omega arith)) (runs (omega arith)))) in
+    let same_above = along_same text one other above 0 (λ k _ low. over k (omega (arith, low))) in
     let same_below = along_same text one other m (above + 1) (λ k high _.
     places_same text one other k (is.others k (λ e. omega arith))
     (line_below one other (length one) k (omega arith) is.count (λ i high'. is.others i (λ e. omega arith)))) in
@@ -201,12 +200,48 @@ module _ (was : List Row) (above before : ℕ) (written : List ℕ) (lt : above 
       ∙ begins_behind (pre ++ written) (take end characters) (post ++ more) text i (omega (arith, long, within, length-take end characters)) (omega (arith, long, past))
       ∙ ap (λ l. begins text l i) (sym (append_assoc (take end characters) post more) ∙ ap (λ l. l ++ more) (take-append-drop end characters) ∙ sym line_was)
 
+  -- and one that begins in a row above and is short
+  above_stays : (text : List ℕ) (k i : ℕ) → k < above → i < length (row_below was k).characters → length text ≤ before + 1
+      → begins text (line_text (drop k (rows_written above before written was))) i ≡ begins text (line_text (drop k was)) i
+  above_stays text k i low first few =
+      let now = rows_written above before written was in
+      let pre = take before characters in
+      let post = drop (before + length written) characters in
+      elim (leads was now now above (above - k) k (omega (arith, low)) over over) [
+        | inr same ↦ ap (λ l. begins text l i) same.1
+        | inl lead ↦
+            let front = lead.front in
+            let long : length (front ++ pre) ≡ length front + before = omega (arith, within, length-append front pre, length-take before characters) in
+            let line : line_text (drop k now) ≡ (front ++ pre) ++ (written ++ (post ++ more)) =
+            lead.second ∙ ap (λ l. front ++ l) (line_now ∙ append_assoc (pre ++ written) post more ∙ append_assoc pre written (post ++ more))
+            ∙ sym (append_assoc front pre (written ++ (post ++ more))) in
+            let line' : line_text (drop k was) ≡ (front ++ pre) ++ (drop before characters ++ more) =
+            lead.first ∙ ap (λ l. front ++ l) (line_was ∙ ap (λ l. l ++ more) (sym (take-append-drop before characters)) ∙ append_assoc pre (drop before characters) more)
+            ∙ sym (append_assoc front pre (drop before characters ++ more)) in
+            ap (λ l. begins text l i) line
+            ∙ begins_before (front ++ pre) (written ++ (post ++ more)) (drop before characters ++ more) text i (omega (arith, long, first, few, lead.long low))
+            ∙ ap (λ l. begins text l i) (sym line')
+      ]
+
+  -- so where no text goes on in them from above, the places above stay
+  above_same : (text : List ℕ) → IsClear was above before text → (k : ℕ) → k < above → places_of text (rows_written above before written was) k ≡ places_of text was k
+  above_same text (inl few) k low =
+      let now = rows_written above before written was in
+      let row : row_below now k ≡ row_below was k = over.others k (λ e. omega arith) in
+      let count = length (row_below was k).characters in
+      ap (λ (r : Row). places_part text k (line_text (drop k now)) 0 (length r.characters)) row
+      ∙ part_alike text k (line_text (drop k was)) (line_text (drop k now)) count 0 (λ i _ lt'. above_stays text k i low (omega (arith, lt')) few)
+  above_same text (inr runs) k low =
+      let now = rows_written above before written was in
+      places_same text was now k (over.others k (λ e. omega arith))
+      (line_above was now above (above - k - 1) k (omega arith) (λ i low'. over.others i (λ e. omega arith)) (runs (omega arith)))
+
   pub near_written : (text : List ℕ) (rows : List Row) (start end : ℕ) → rows ≡ rows_written above before written was → 0 < length text
-      → start ≡ before - (length text - 1) → end ≡ before + length written → (0 < above → (row_below rows (above - 1)).runs_on ≡ false) → IsNear text was rows above start end
-  near_written text rows start end is some from to runs =
+      → start ≡ before - (length text - 1) → end ≡ before + length written → IsClear was above before text → IsNear text was rows above start end
+  near_written text rows start end is some from to clear =
       subst (λ l. IsNear text was l above start end) (sym is)
       (near text was (rows_written above before written was) above start end over lt (omega (arith, from, to)) (omega (arith, to, within)) written_long
-      (λ below. sym (ap (λ (r : Row). r.runs_on) (over.others (above - 1) (λ e. omega arith))) ∙ ap (λ l. (row_below l (above - 1)).runs_on) (sym is) ∙ runs below)
+      (above_same text clear)
       (λ i low. left_stays text i (omega (arith, from, low, some)))
       (λ i high. right_stays text i (omega (arith, to, high))))
 
@@ -256,18 +291,17 @@ none_written characters letters text from before order within left right k low h
     ]
 
 pub written_nothing : (was : List Row) (above before : ℕ) (letters text : List ℕ) (from : ℕ) → above < length was → before + length letters ≤ length (row_below was above).characters
-    → 0 < length text → from ≡ before - (length text - 1) → (0 < above → (row_below was (above - 1)).runs_on ≡ false)
+    → 0 < length text → from ≡ before - (length text - 1) → IsClear was above before text
     → ((k : ℕ) → k < length (take (before - from) (drop from (row_below was above).characters)) → (rest : List ℕ)
     → starts_with nat_eq (drop k (take (before - from) (drop from (row_below was above).characters)) ++ (letters ++ rest)) text ≡ false)
     → ((k : ℕ) → k < length letters → (rest : List ℕ)
     → starts_with nat_eq (drop k letters ++ (drop (before + length letters) (row_below was above).characters ++ rest)) text ≡ false)
     → standing text was ≡ [] → standing text (rows_written above before letters was) ≡ []
-written_nothing was above before letters text from lt within some is runs left right none =
+written_nothing was above before letters text from lt within some is clear left right none =
     let rows = rows_written above before letters was in
     let end = before + length letters in
     let written = there was above before letters lt within in
-    let near_is = near_written was above before letters lt within text rows from end refl some is refl
-    (λ below. ap (λ (r : Row). r.runs_on) ((over was above before letters lt within).others (above - 1) (λ e. omega arith)) ∙ runs below) in
+    let near_is = near_written was above before letters lt within text rows from end refl some is refl clear in
     near_nothing text was rows above from end near_is (omega (arith, is)) (omega (arith, written_long was above before letters lt within, within))
     (λ k low high rest.
     ap (λ (r : Row). starts_with nat_eq (drop k r.characters ++ rest) text) written

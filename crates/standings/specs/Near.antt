@@ -1,6 +1,7 @@
 -- Private: what is looked for around characters that were written.
-use Rattle.std.specs.Prelude.{◌≡◌, ℕ, ◌<◌, ◌≤◌, List, filter, length, map}
+use Rattle.std.specs.Prelude.{◌≡◌, ◌⊎◌, ℕ, ◌+◌, ◌-◌, ◌<◌, ◌≤◌, false, List, filter, length, map}
 use Rattle.std.specs.List.{range_with_len}
+use Rattle.standings.specs.Rows.{Row, row_below}
 use Rattle.standings.specs.Standing.{begins, place_at, place_in}
 use Rattle.standings.specs.declared.place.Place.{Place}
 
@@ -22,3 +23,7 @@ pub record IsCut (above start end : ℕ) (front middle rest : List Place) : Type
   pub low : (j : ℕ) → j < length middle → IsLate (place_at middle j) above start
   pub high : (j : ℕ) → j < length middle → IsEarly (place_at middle j) above end
   pub late : (j : ℕ) → j < length rest → IsLate (place_at rest j) above end
+
+-- no text that begins above a row goes on in it behind so many characters: it is too short, or the row above doesn't run on
+abbrev pub IsClear : List Row → ℕ → ℕ → List ℕ → Type 0
+IsClear rows above before text = (length text ≤ before + 1) ⊎ (0 < above → (row_below rows (above - 1)).runs_on ≡ false)

@@ -11,11 +11,10 @@ ghost use Rattle.standings.specs.Written.{rows_written};
 
 use crate::follow::follow_rows;
 use crate::lag::Lag;
-use crate::near::{count_near, look_near, may_come_near};
+use crate::near::{count_near, look_near, may_come_near, may_go_on};
 use crate::place::{Place, look_between, may_come, may_come_below, move_places_up, standing};
 use crate::row::{
-    Row, characters_below, move_rows_up, runs_on_to, shift_down, shift_up, turn_rows,
-    turn_rows_back,
+    Row, characters_below, move_rows_up, shift_down, shift_up, turn_rows, turn_rows_back,
 };
 use crate::span::Span;
 use std::alloc::{AllocError, Global};
@@ -144,7 +143,7 @@ impl Standing {
             from: above,
             to: above + 1,
         };
-        if text.is_empty() || runs_on_to(self.rows.as_slice(), above) {
+        if text.is_empty() || may_go_on(self.rows.as_slice(), text, above, before) {
             return self.write_and_look(span, before, letters, text);
         }
         let rows = self.rows.as_slice();

@@ -2,17 +2,17 @@
 
 ghost use Rattle.std.specs.Prelude.{◌≡◌, ◌+◌, ◌≤◌, ◌<◌, ◌++◌, ◌-◌, [], false, true, List, ℕ, drop, length, nat_eq, vec_capacity};
 ghost use Rattle.std.specs.List.{starts_with};
-ghost use Rattle.standings.specs.Near.{IsCut, IsEarly, IsLate, places_part};
+ghost use Rattle.standings.specs.Near.{IsClear, IsCut, IsEarly, IsLate, places_part};
 ghost use Rattle.standings.specs.Rows.{Row, row_below};
 ghost use Rattle.standings.specs.Standing.{line_text, place_at, standing};
 ghost use Rattle.standings.specs.Written.{rows_written};
 
 use crate::place::{Place, forget, has_front, has_front_early, put_part, turn};
-use crate::row::{Row, characters_below};
+use crate::row::{Row, characters_below, runs_on_to};
 
-/// Looks again where a text stands that stood at these places, where so many characters were written in a row to which no
-/// other runs on: at them, and at those left of them from which the text may go on in them. There is room for a place at
-/// each.
+/// Looks again where a text stands that stood at these places, where so many characters were written in a row in which it
+/// goes on from no row above: at them, and at those left of them from which the text may go on in them. There is room for a
+/// place at each.
 pub(crate) fn look_near(
     rows: &[Row],
     text: &[char],
@@ -29,7 +29,7 @@ pub(crate) fn look_near(
     ensures { (was : List Row) (written : List ℕ) → length written ≡ count
         → before + count ≤ length (row_below was above).characters
         → rows.now ≡ rows_written above before written was
-        → (0 < above → (row_below rows.now (above - 1)).runs_on ≡ false)
+        → IsClear was above before text.now
         → places.old.items ≡ standing text.now was
         → places.new.items ≡ standing text.now rows.now }
 {
@@ -55,8 +55,9 @@ pub(crate) fn count_near(
     characters_below(rows, above)[from..before + count].len()
 }
 
-/// Whether a text that stands nowhere may come to stand where these characters are written over as many others of a row
-/// to which no other runs on: whether it may begin at one of them, or left of them and go on in them. Mostly it doesn't.
+/// Whether a text that stands nowhere may come to stand where these characters are written over as many others of a row in
+/// which it goes on from no row above: whether it may begin at one of them, or left of them and go on in them. Mostly it
+/// doesn't.
 pub(crate) fn may_come_near(
     rows: &[Row],
     text: &[char],
@@ -67,7 +68,7 @@ pub(crate) fn may_come_near(
     requires row { above < length rows.now }
     requires within { before + length letters.now ≤ length (row_below rows.now above).characters }
     requires some { 0 < length text.now }
-    ensures { result ≡ false → (0 < above → (row_below rows.now (above - 1)).runs_on ≡ false)
+    ensures { result ≡ false → IsClear rows.now above before text.now
         → standing text.now rows.now ≡ []
         → standing text.now (rows_written above before letters.now rows.now) ≡ [] }
 {
@@ -75,6 +76,14 @@ pub(crate) fn may_come_near(
     let from = before.saturating_sub(text.len() - 1);
     may_begin_in(&characters[from..before], letters, text)
         || may_begin_in(letters, &characters[before + letters.len()..], text)
+}
+
+/// Whether a text that begins in a row above may go on in what is written behind so many characters of a row.
+pub(crate) fn may_go_on(rows: &[Row], text: &[char], above: usize, before: usize) -> bool
+    requires { 0 < length text.now }
+    ensures { result ≡ false → IsClear rows.now above before text.now }
+{
+    before < text.len() - 1 && runs_on_to(rows, above)
 }
 
 /// Whether a text may begin among characters behind which others stand: whether its first two stand side by side.

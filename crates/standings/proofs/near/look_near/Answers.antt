@@ -6,7 +6,7 @@ use Rattle.standings.proofs.NearLemmas.{near_written}
 use Rattle.standings.proofs.near.look_near.Goals as goal
 
 pub returns : goal.returns
-returns c = λ was written many within is runs stood.
+returns c = λ was written many within is clear stood.
     let text = c.args.text.now in
     let rows = c.args.rows.now in
     let above = c.args.above in
@@ -14,5 +14,5 @@ returns c = λ was written many within is runs stood.
     let end = c.min-end.result in
     let long : length rows ≡ length was = ap length is ∙ length-set was above (row_written c.args.before written (row_below was above)) in
     let near = near_written was above c.args.before written (omega (arith, long, c.requires.row)) (omega (arith, many, within)) text rows start end is c.requires.some
-    (omega (arith, c.saturating_sub-start.ensures)) (omega (arith, many, c.min-end.ensures, c.requires.within, ap length c.characters_below.ensures)) runs in
+    (omega (arith, c.saturating_sub-start.ensures)) (omega (arith, many, c.min-end.ensures, c.requires.within, ap length c.characters_below.ensures)) clear in
     c.look_part.ensures near.front near.middle near.rest (stood ∙ near.before) near.cut ∙ sym near.after
