@@ -1,6 +1,7 @@
 mod ArrayLemmas
 pub mod FrontLemmas
 mod ListedLemmas
+mod MarkLemmas
 mod MemberLemmas
 mod NumberLemmas
 mod PlainLemmas

@@ -1,5 +1,5 @@
 -- Numbers that digits write, cut and filled with zeros.
-use Rattle.std.proofs.Common.{◌≡◌, ℕ, zero, suc, ◌+◌, ◌-◌, ◌*◌, ◌/◌, ◌<◌, ◌≤◌, ◌^◌, List, [], ◌∷◌, ◌++◌, length, take, drop, get_or, min, true, refl, ap, sym, ◌∙◌, arith, inl, inr, length-append, add-one, append-nil}
+use Rattle.std.proofs.Common.{◌≡◌, ℕ, zero, suc, ◌+◌, ◌-◌, ◌*◌, ◌/◌, ◌<◌, ◌≤◌, ◌^◌, List, [], ◌∷◌, ◌++◌, length, take, drop, get_or, min, nat_eq, Bool, true, false, Some, refl, subst, ap, sym, ◌∙◌, arith, inl, inr, length-append, add-one, append-nil}
 use Rattle.std.specs.Char.{is_ascii_digit, digit_value}
 use Rattle.std.specs.List.{AllPass, prefix_len}
 use Rattle.std.specs.Str.Parse.{digits_value, digits_value_after}
@@ -12,7 +12,10 @@ use Rattle.std.proofs.lemmas.Nat.{div-mul-add, pow-add}
 use Rattle.std.proofs.lemmas.Str.{digit_value_digit}
 use Rattle.std.proofs.Math.Nat.{div-div-eq-div-mul, mul-le-mul_left, mul-le-mul_right, pow-suc}
 use Rattle.std.proofs.Math.Seq.{take-append-add}
-use Rattle.json_bytes.specs.Numbers.{greatest}
+use Rattle.json_bytes.specs.Marks.{begins}
+use Rattle.json_bytes.specs.Numbers.{decimal_at, greatest, number_at, whole_len}
+use Rattle.json_bytes.specs.Shown.{alone}
+use Rattle.json_bytes.proofs.MemberLemmas.{first_byte}
 
 -- a digit's value
 pub digit_range : (c : ℕ) → is_ascii_digit c ≡ true → (48 ≤ c) × (c ≤ 57)
@@ -221,3 +224,33 @@ prefix_digits text = λ i e lt.
     let len : length (take (prefix_len is_ascii_digit text) text) ≡ prefix_len is_ascii_digit text = length-prefix_len is_ascii_digit text in
     let within : i < prefix_len is_ascii_digit text = omega (arith, len) in
     rw (get_or-take (prefix_len is_ascii_digit text) text i e within) (prefix_len_passes is_ascii_digit text i e within)
+
+-- a number of digits alone
+no_minus_by : (b : ℕ) (bs : List ℕ) (minus : Bool) → begins 45 (b ∷ bs) ≡ minus → 0 < whole_len (b ∷ bs) → begins 45 (b ∷ bs) ≡ false
+no_minus_by b bs false is some = is
+no_minus_by b bs true is some =
+    let none : 0 < whole_len (45 ∷ bs) = subst (λ n. 0 < whole_len (n ∷ bs)) (first_byte 45 b bs is) some in
+    absurd (omega (arith, none))
+
+no_minus : (text : List ℕ) → 0 < whole_len text → begins 45 text ≡ false
+no_minus [] some = absurd (omega arith)
+no_minus (b ∷ bs) some = no_minus_by b bs (begins 45 (b ∷ bs)) refl some
+
+some_whole : (n : ℕ) (text : List ℕ) → nat_eq (length (take n text)) 0 ≡ false → 0 < n
+some_whole zero text some = cc
+some_whole (suc n) text some = omega arith
+
+not_zero : (n : ℕ) → 0 < n → nat_eq n 0 ≡ false
+not_zero zero some = absurd (omega arith)
+not_zero (suc n) some = grind (arith, nat_tests)
+
+pub digits_alone : (text digits rest : List ℕ) → digits ≡ take (whole_len text) text → rest ≡ drop (whole_len text) text → nat_eq (length digits) 0 ≡ false
+    → begins 46 rest ≡ false → begins 101 rest ≡ false → begins 69 rest ≡ false → number_at text ≡ Some (alone digits rest, rest)
+digits_alone text digits rest front back some point small great =
+    let more : 0 < whole_len text = some_whole (whole_len text) text (ap (λ d. nat_eq (length d) 0) (sym front) ∙ some) in
+    let none : nat_eq (whole_len text) 0 ≡ false = not_zero (whole_len text) more in
+    let first : begins 45 text ≡ false = no_minus text more in
+    let no_point : begins 46 (drop (whole_len text) text) ≡ false = ap (begins 46) (sym back) ∙ point in
+    let no_small : begins 101 (drop (whole_len text) text) ≡ false = ap (begins 101) (sym back) ∙ small in
+    let no_great : begins 69 (drop (whole_len text) text) ≡ false = ap (begins 69) (sym back) ∙ great in
+    rw (front, back, first, none, no_point, no_small, no_great) refl

@@ -1,7 +1,8 @@
 -- Private: what the parts of a number show, and how it is scaled.
-use Rattle.std.specs.Prelude.{ℕ, ◌+◌, ◌-◌, List, ◌++◌, length, min}
+use Rattle.std.specs.Prelude.{ℕ, ◌+◌, ◌-◌, false, List, [], ◌++◌, drop, length, min}
 use Rattle.std.specs.Char.{is_ascii_digit}
 use Rattle.std.specs.List.{AllPass}
+use Rattle.json_bytes.specs.Marks.{begins}
 use Rattle.json_bytes.specs.Numbers.{Decimal, lowers, raises}
 use Rattle.json_bytes.specs.declared.numbers.Parts.{Parts}
 use Rattle.json_bytes.specs.declared.pieces.Pieces.{Pieces}
@@ -15,6 +16,11 @@ shown parts = record {
   falls = parts.falls;
   exponent = parts.exponent.now;
 }
+
+-- The number that digits alone write, which this stands behind.
+abbrev pub alone : List ℕ → List ℕ → Decimal
+alone digits rest =
+    record { negative = false; whole = digits; fraction = []; falls = begins 45 (drop 1 rest); exponent = [] }
 
 -- The bytes that were added one after another.
 abbrev pub added : Pieces → List ℕ

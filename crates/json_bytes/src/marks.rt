@@ -1,5 +1,5 @@
 //! What stands between the values of a text.
-ghost use Rattle.std.specs.Prelude.{◌≡◌, ◌≤◌, length};
+ghost use Rattle.std.specs.Prelude.{◌≡◌, ◌≤◌, length, true};
 ghost use Rattle.std.specs.List.{prefix_len};
 ghost use Rattle.std.specs.Option.{option_map};
 ghost use Rattle.json_bytes.specs.Marks.{begins, is_space, past_mark, past_space};
@@ -19,14 +19,35 @@ fn space_len(text: &[u8]) -> usize
     text.iter().take_while(|b| is_space(**b)).count()
 }
 
-/// A text without the space at its front.
+/// Whether no space stands at the front.
+#[inline]
+#[tactic(auto, using(crate::proofs::MarkLemmas::first_other, crate::proofs::MarkLemmas::none_first))]
+fn is_trimmed(text: &[u8]) -> bool
+    ensures { result ≡ true → prefix_len is_space text.now ≡ 0 }
+{
+    match text {
+        [first, ..] => !is_space(*first),
+        [] => true,
+    }
+}
+
+/// A text without the space at its front, which mostly is one space at most.
+#[inline]
+#[tactic(auto, using(crate::proofs::MarkLemmas::no_space, crate::proofs::MarkLemmas::one_space))]
 pub fn past_space(text: &[u8]) -> &[u8]
     ensures { result.now ≡ past_space text.now }
 {
-    text.split_at(space_len(text)).1
+    if is_trimmed(text) {
+        return text;
+    }
+    match text {
+        [b' ', rest @ ..] if is_trimmed(rest) => rest,
+        _ => text.split_at(space_len(text)).1,
+    }
 }
 
 /// Whether a byte stands at the front.
+#[inline]
 pub fn begins(byte: u8, text: &[u8]) -> bool
     ensures { result ≡ begins byte text.now }
 {
@@ -34,6 +55,7 @@ pub fn begins(byte: u8, text: &[u8]) -> bool
 }
 
 /// What stands behind a structural character and the space around it, where it stands at the front.
+#[inline]
 pub fn past_mark(byte: u8, text: &[u8]) -> Option<&[u8]>
     ensures { option_map (λ r. r.now) result ≡ past_mark byte text.now }
 {

@@ -1,12 +1,12 @@
 //! Numbers: their text, and what they are worth.
-ghost use Rattle.std.specs.Prelude.{◌≡◌, ℕ, ◌+◌, ◌*◌, ◌^◌, ◌≤◌, ◌++◌, IfSome, drop, length, min, take};
+ghost use Rattle.std.specs.Prelude.{◌≡◌, ℕ, ◌+◌, ◌*◌, ◌^◌, ◌≤◌, ◌++◌, IfSome, Some, drop, length, min, take};
 ghost use Rattle.std.specs.Char.{is_ascii_digit};
 ghost use Rattle.std.specs.List.{AllPass, prefix_len};
 ghost use Rattle.std.specs.Option.{option_and_then, option_map};
 ghost use Rattle.std.specs.Str.Parse.{digits_value, digits_value_after};
 ghost use Rattle.json_bytes.specs.Arrays.{byte_at, byte_of};
 ghost use Rattle.json_bytes.specs.Numbers.{decimal_at, digits_len, digits_of, exponent_of, fraction_of, greatest, lowers, number_at, past_digits, past_exponent, past_fraction, past_minus, past_sign, plain_digits, raises, scaled, whole_len};
-ghost use Rattle.json_bytes.specs.Shown.{IsOfDigits, kept_digits, kept_zeros, shown};
+ghost use Rattle.json_bytes.specs.Shown.{IsOfDigits, alone, kept_digits, kept_zeros, shown};
 ghost use Rattle.json_bytes.specs.Values.{as_part, behind, found, number_of, value};
 
 use crate::marks::begins;
@@ -251,20 +251,42 @@ fn byte_of(number: &Parts) -> Option<u8>
     }
 }
 
+/// The number at the front, where its text is digits alone, and what stands behind it.
+#[inline]
+#[tactic(auto, using(crate::proofs::NumberLemmas::digits_alone))]
+fn split_plain(text: &[u8]) -> Option<(&[u8], &[u8])>
+    ensures number { IfSome result (λ r. number_at text.now ≡ Some (alone r.0.now r.1.now, r.1.now)) }
+    ensures digits { IfSome result (λ r. AllPass is_ascii_digit r.0.now) }
+{
+    let (digits, rest) = split_whole(text);
+    if digits.is_empty() || begins(b'.', rest) || begins(b'e', rest) || begins(b'E', rest) {
+        return None;
+    }
+    Some((digits, rest))
+}
+
 /// What stands behind the number at the front.
+#[inline]
 pub fn number_end(text: &[u8]) -> Option<&[u8]>
     ensures { option_map (λ r. r.now) result ≡ behind (number_at text.now) }
 {
+    if let Some((_digits, rest)) = split_plain(text) {
+        return Some(rest);
+    }
     Some(number_at(text)?.1)
 }
 
 /// The digits of the number that stands at the front as a value, where its text is digits alone.
 #[tactic(auto, using(crate::proofs::ScalarLemmas::value_read))]
 pub fn plain_digits(text: &[u8]) -> Option<&[u8]>
-    ensures { (depth : ℕ) → option_map (λ r. r.now) result
+    ensures digits { (depth : ℕ) → option_map (λ r. r.now) result
         ≡ option_and_then plain_digits (number_of (found (value depth text.now))) }
+    ensures all { IfSome result (λ digits. AllPass is_ascii_digit digits.now) }
 {
-    let (number, _) = number_at(text)?;
+    if let Some((digits, _rest)) = split_plain(text) {
+        return Some(digits);
+    }
+    let (number, _rest) = number_at(text)?;
     whole_digits(&number)
 }
 

@@ -55,8 +55,8 @@ fn hex_digit(b: u8) -> Option<u32>
 {
     match b {
         b'0'..=b'9' => Some(u32::from(b - b'0')),
-        b'A'..=b'F' => Some(u32::from(b - b'A') + 10),
         b'a'..=b'f' => Some(u32::from(b - b'a') + 10),
+        b'A'..=b'F' => Some(u32::from(b - b'A') + 10),
         _ => None,
     }
 }
@@ -279,6 +279,7 @@ fn push_items<'a>(pieces: &mut Pieces, text: &'a [u8]) -> Result<Option<&'a [u8]
 
 /// The bytes that a string's text means up to its quote, which begins with these that stand by themselves, and what
 /// stands behind that.
+#[inline(never)]
 fn write_items<'a>(
     alloc: Global,
     plain: &[u8],
@@ -317,6 +318,7 @@ pub fn string_end(text: &[u8]) -> Option<&[u8]>
 
 /// The string at the front, by the bytes that it means, and what stands behind it. Takes no memory where each of its bytes
 /// stands by itself.
+#[inline(always)]
 pub fn read_string(
     alloc: Global,
     text: &[u8],

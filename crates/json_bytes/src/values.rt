@@ -1,5 +1,7 @@
 //! Values: where they end, and what stands in them.
-ghost use Rattle.std.specs.Prelude.{◌≡◌, ◌+◌, ℕ, None, Some, IfOk, MatchOption, is_some, true};
+ghost use Rattle.std.specs.Prelude.{◌≡◌, ◌+◌, ℕ, None, Some, IfOk, IfSome, MatchOption, is_some, true};
+ghost use Rattle.std.specs.Char.{is_ascii_digit};
+ghost use Rattle.std.specs.List.{AllPass};
 ghost use Rattle.std.specs.Option.{option_and_then, option_map};
 ghost use Rattle.json_bytes.specs.Listed.{valued};
 ghost use Rattle.json_bytes.specs.Numbers.{plain_digits};
@@ -106,6 +108,20 @@ pub enum ReadValue<'a> {
     Other(&'a [u8]),
 }
 
+impl<'a> ReadValue<'a> {
+    /// The bytes that it means as a string, which stand in the text or were written.
+    #[inline]
+    pub fn into_string(self, alloc: Global) -> Result<Option<StringBytes<'a>>, AllocError>
+        ensures { IfOk result (λ bytes. (depth : ℕ)
+            → option_map meant bytes ≡ string_of (Some (valued depth self.entry))) }
+    {
+        match self {
+            ReadValue::Text(bytes) => Ok(Some(bytes)),
+            ReadValue::Other(place) => string_in(alloc, place),
+        }
+    }
+}
+
 impl ReadValue<'_> {
     /// The bytes that it means as a string, which it lends.
     pub fn text(&self, alloc: Global) -> Result<Option<StringBytes<'_>>, AllocError>
@@ -134,8 +150,9 @@ impl ReadValue<'_> {
 
     /// The digits of the number that it is, where its text is digits alone.
     pub fn plain_digits(&self) -> Option<&[u8]>
-        ensures { (depth : ℕ) → option_map (λ r. r.now) result
+        ensures digits { (depth : ℕ) → option_map (λ r. r.now) result
             ≡ option_and_then plain_digits (number_of (Some (valued depth self.now))) }
+        ensures all { IfSome result (λ digits. AllPass is_ascii_digit digits.now) }
     {
         match self {
             ReadValue::Text(_) => None,
@@ -145,6 +162,7 @@ impl ReadValue<'_> {
 }
 
 /// The value at the front, which has arrays and objects at most so deep, and what stands behind it.
+#[inline(always)]
 pub fn read_value(
     alloc: Global,
     text: &[u8],
