@@ -4,6 +4,7 @@ mod ListedLemmas
 mod MarkLemmas
 mod MemberLemmas
 mod NumberLemmas
+mod PieceLemmas
 mod PlainLemmas
 mod ScalarLemmas
 pub mod StringFronts

@@ -13,7 +13,7 @@ use Rattle.std.proofs.lemmas.Str.{digit_value_digit}
 use Rattle.std.proofs.Math.Nat.{div-div-eq-div-mul, mul-le-mul_left, mul-le-mul_right, pow-suc}
 use Rattle.std.proofs.Math.Seq.{take-append-add}
 use Rattle.json_bytes.specs.Marks.{begins}
-use Rattle.json_bytes.specs.Numbers.{decimal_at, greatest, number_at, whole_len}
+use Rattle.json_bytes.specs.Numbers.{greatest, number_at, whole_len}
 use Rattle.json_bytes.specs.Shown.{alone}
 use Rattle.json_bytes.proofs.MemberLemmas.{first_byte}
 

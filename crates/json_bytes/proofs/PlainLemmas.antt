@@ -79,3 +79,14 @@ run_stops bytes from n room short some =
     ∙ ap (λ b. cond b (length piece + rest) (prefix_len is_plain piece))
     (ne_eqb _ _ (λ (whole : prefix_len is_plain piece ≡ length piece). omega (arith, all_plain piece (sym (same_run piece) ∙ whole))))
     ∙ same_run piece ∙ sym (trailing_mask_l is_other 64 piece (omega (arith, length-chunk from n bytes room)) some)
+
+-- and in lanes alone
+pub lanes_through : (lanes : List ℕ) → length lanes ≡ 16 → mask_l (map is_other lanes) ≡ 0 → 16 ≡ prefix_len is_plain lanes
+lanes_through lanes long none = omega (arith, same_run lanes, leading_from_mask_l is_other lanes none)
+
+pub lanes_stop : (lanes : List ℕ) → length lanes ≡ 16 → 0 < mask_l (map is_other lanes)
+    → count_trailing_zeros 64 (mask_l (map is_other lanes)) ≡ prefix_len is_plain lanes
+lanes_stop lanes long some = trailing_mask_l is_other 64 lanes (omega arith) some ∙ sym (same_run lanes)
+
+pub lanes_bound : (lanes : List ℕ) → length lanes ≡ 16 → prefix_len is_plain lanes ≤ 16
+lanes_bound lanes long = omega (arith, prefix_len-le-length is_plain lanes)

@@ -12,6 +12,7 @@ use Rattle.json_bytes.specs.Values.{behind}
 use Rattle.json_bytes.specs.declared.strings.Meaning.{Meaning}
 use Rattle.json_bytes.specs.declared.strings.Meaning.TheVariants as meaning
 use Rattle.json_bytes.proofs.MemberLemmas.{first_byte}
+use Rattle.json_bytes.proofs.PieceLemmas.{take_few}
 
 -- bytes that belong to the item before are passed over
 pub passed_over : (belong : ℕ) (text : List ℕ) → items belong text ≡ items 0 (drop belong text)
@@ -100,6 +101,9 @@ pub quote_read : (text inner plain rest : List ℕ) → begins 34 text ≡ true 
     → rest ≡ drop (prefix_len is_plain inner) inner → string_at text ≡ with_front plain (items 0 rest)
 quote_read text inner plain rest is inside front back = rw is (ap (items 0) (sym inside) ∙ behind_plain inner ∙ rw (← front, ← back) refl)
 
+pub quote_inner : (text inner : List ℕ) → begins 34 text ≡ true → inner ≡ drop 1 text → string_at text ≡ items 0 inner
+quote_inner text inner is inside = rw is (ap (items 0) (sym inside))
+
 quote_here : (b : ℕ) (bs : List ℕ) → begins 34 (b ∷ bs) ≡ true → items 0 (b ∷ bs) ≡ Some ([], bs)
 quote_here b bs is = let same : b ≡ 34 = first_byte 34 b bs is in rw same refl
 
@@ -157,3 +161,38 @@ pub ascii_read : (before text : List ℕ) (byte : ℕ) → item_at text ≡ Some
 ascii_read before text byte is small long other =
     ap (with_front before) (behind_item text (meaning.Character byte) 6 (omega arith) long other is)
     ∙ fronts before (bytes_of (meaning.Character byte)) (items 0 (drop 6 text)) ∙ ap (λ bytes. with_front (before ++ bytes) (items 0 (drop 6 text))) (ascii_bytes byte small)
+
+-- so many bytes that stand by themselves, as lanes show them
+one_plain : (n b : ℕ) (bs : List ℕ) (plain : Bool) → is_plain b ≡ plain → suc n ≤ prefix_len is_plain (b ∷ bs)
+    → (n ≤ prefix_len is_plain bs → items 0 bs ≡ with_front (take n bs) (items 0 (drop n bs)))
+    → items 0 (b ∷ bs) ≡ with_front (take (suc n) (b ∷ bs)) (items 0 (drop (suc n) (b ∷ bs)))
+one_plain n b bs false e few more =
+    let none : prefix_len is_plain (b ∷ bs) ≡ 0 = rw (e, prefix_len) refl in
+    absurd (omega arith)
+one_plain n b bs true e few more =
+    let len : prefix_len is_plain (b ∷ bs) ≡ suc (prefix_len is_plain bs) = rw (e, prefix_len) (omega arith) in
+    behind_item (b ∷ bs) (meaning.Byte b) 1 (omega arith) (omega arith) (plain_other b e) (plain_item b bs e)
+    ∙ ap (with_front (b ∷ [])) (more (omega arith))
+    ∙ fronts (b ∷ []) (take n bs) (items 0 (drop n bs))
+
+some_plain : (n : ℕ) (text : List ℕ) → n ≤ prefix_len is_plain text → items 0 text ≡ with_front (take n text) (items 0 (drop n text))
+some_plain zero text few = sym (no_front (items 0 text))
+some_plain (suc n) [] few = absurd (omega arith)
+some_plain (suc n) (b ∷ bs) few = one_plain n b bs (is_plain b) refl few (some_plain n bs)
+
+fewer_by : (n b : ℕ) (bs : List ℕ) (plain : Bool) → is_plain b ≡ plain → prefix_len is_plain (take n bs) ≤ prefix_len is_plain bs
+    → prefix_len is_plain (b ∷ take n bs) ≤ prefix_len is_plain (b ∷ bs)
+fewer_by n b bs true e less = rw (prefix_len, e) (omega arith)
+fewer_by n b bs false e less = rw (prefix_len, e) (omega arith)
+
+fewer : (n : ℕ) (text : List ℕ) → prefix_len is_plain (take n text) ≤ prefix_len is_plain text
+fewer zero text = omega arith
+fewer (suc n) [] = omega arith
+fewer (suc n) (b ∷ bs) = fewer_by n b bs (is_plain b) refl (fewer n bs)
+
+pub lanes_read : (before text : List ℕ) (run : ℕ) → run ≡ prefix_len is_plain (take 16 text) → run ≤ 16
+    → with_front before (items 0 text) ≡ with_front (before ++ take run (take 16 text)) (items 0 (drop run text))
+lanes_read before text run is few =
+    ap (with_front before) (some_plain run text (omega (arith, fewer 16 text)))
+    ∙ fronts before (take run text) (items 0 (drop run text))
+    ∙ ap (λ bytes. with_front (before ++ bytes) (items 0 (drop run text))) (sym (take_few run 16 text few))

@@ -1,5 +1,5 @@
 -- Private: what the parts of a number show, and how it is scaled.
-use Rattle.std.specs.Prelude.{ℕ, ◌+◌, ◌-◌, false, List, [], ◌++◌, drop, length, min}
+use Rattle.std.specs.Prelude.{ℕ, ◌+◌, ◌-◌, false, List, [], ◌++◌, drop, length, min, take}
 use Rattle.std.specs.Char.{is_ascii_digit}
 use Rattle.std.specs.List.{AllPass}
 use Rattle.json_bytes.specs.Marks.{begins}
@@ -24,7 +24,7 @@ alone digits rest =
 
 -- The bytes that were added one after another.
 abbrev pub added : Pieces → List ℕ
-added pieces = pieces.bytes.items ++ pieces.held.items
+added pieces = pieces.bytes.items ++ take pieces.count pieces.held
 
 -- They are digits.
 pub record IsOfDigits (parts : Parts) : Type 0 where

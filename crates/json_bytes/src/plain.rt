@@ -28,6 +28,20 @@ fn others(lanes: u8x16) -> u64
     (controls | quotes | backslashes).to_bitmask()
 }
 
+/// How many lanes come before the first that is no such byte: all of them where there is none.
+#[inline]
+#[tactic(auto, using(crate::proofs::PlainLemmas::lanes_through, crate::proofs::PlainLemmas::lanes_stop, crate::proofs::PlainLemmas::lanes_bound))]
+pub fn plain_lanes(lanes: u8x16) -> usize
+    ensures plain { result ≡ prefix_len is_plain lanes }
+    ensures within { result ≤ 16 }
+{
+    let found = others(lanes);
+    if found == 0 {
+        return LANES;
+    }
+    found.trailing_zeros() as usize
+}
+
 // The run from `from` on, a byte at a time.
 #[inline]
 fn run_end_slowly(bytes: &[u8], from: usize) -> usize

@@ -7,9 +7,10 @@ ghost use Rattle.json_bytes.specs.Values.{behind, found, string_of, value};
 ghost use Rattle.json_bytes.specs.declared.strings.Meaning.TheVariants as meaning;
 
 use crate::marks::begins;
-use crate::pieces::Pieces;
-use crate::plain::plain_len;
+use crate::pieces::{LANES, Pieces};
+use crate::plain::{is_plain, plain_lanes, plain_len};
 use std::alloc::{AllocError, Global};
+use std::simd::prelude::*;
 
 /// The bytes that a string means: those of its text, where each stands by itself, or others that were written.
 #[derive(Drop)]
@@ -187,6 +188,16 @@ fn item_at(text: &[u8]) -> Option<(Meaning, usize)>
     }
 }
 
+/// Adds bytes.
+fn push_all(pieces: &mut Pieces, bytes: &[u8]) -> Result<(), AllocError>
+    ensures { OnOk result (added pieces.new ≡ added pieces.old ++ bytes.now) }
+{
+    for byte in bytes {
+        pieces.push(*byte)?;
+    }
+    Ok(())
+}
+
 /// Adds the bytes that are meant.
 fn push_meaning(pieces: &mut Pieces, meaning: Meaning) -> Result<(), AllocError>
     ensures { OnOk result (added pieces.new ≡ added pieces.old ++ bytes_of meaning) }
@@ -194,7 +205,7 @@ fn push_meaning(pieces: &mut Pieces, meaning: Meaning) -> Result<(), AllocError>
     match meaning {
         Meaning::Byte(byte) => pieces.push(byte),
         Meaning::Character(character) => {
-            pieces.push_slice(character.encode_utf8(&mut [0; 4]).as_bytes())
+            push_all(pieces, character.encode_utf8(&mut [0; 4]).as_bytes())
         }
     }
 }
@@ -240,15 +251,31 @@ fn past_plain(text: &[u8]) -> &[u8]
     text.split_at(plain_len(text)).1
 }
 
-/// Adds the bytes at the front of a string's text that stand by themselves, and gives what stands behind them.
+/// Adds the bytes at the front of a string's text that stand by themselves, at least up to the first other one, and
+/// gives what stands behind them.
 #[inline]
 fn push_plain<'a>(pieces: &mut Pieces, text: &'a [u8]) -> Result<&'a [u8], AllocError>
     ensures pushed { IfOk result (λ rest. with_front (added pieces.old) (items 0 text.now)
         ≡ with_front (added pieces.new) (items 0 rest.now)) }
     ensures shorter { IfOk result (λ rest. length rest.now ≤ length text.now) }
 {
-    let (plain, rest) = text.split_at(plain_len(text));
-    pieces.push_slice(plain)?;
+    let mut rest = text;
+    while let [first, behind @ ..] = rest {
+        if rest.len() >= LANES && pieces.has_room() {
+            let lanes = u8x16::from_slice(rest);
+            let run = plain_lanes(lanes);
+            pieces.push_lanes(lanes, run);
+            rest = rest.split_at(run).1;
+            if run < LANES {
+                return Ok(rest);
+            }
+        } else if is_plain(*first) {
+            pieces.push(*first)?;
+            rest = behind;
+        } else {
+            return Ok(rest);
+        }
+    }
     Ok(rest)
 }
 
@@ -258,7 +285,7 @@ fn push_items<'a>(pieces: &mut Pieces, text: &'a [u8]) -> Result<Option<&'a [u8]
     ensures { IfOk result (λ rest. option_map (λ r. (added pieces.new, r.now)) rest
         ≡ with_front (added pieces.old) (items 0 text.now)) }
 {
-    let mut rest = text;
+    let mut rest = push_plain(pieces, text)?;
     while let [first, behind @ ..] = rest {
         if *first == b'"' {
             return Ok(Some(behind));
@@ -277,23 +304,19 @@ fn push_items<'a>(pieces: &mut Pieces, text: &'a [u8]) -> Result<Option<&'a [u8]
     Ok(None)
 }
 
-/// The bytes that a string's text means up to its quote, which begins with these that stand by themselves, and what
-/// stands behind that.
+/// The bytes that a string's text means up to its quote, and what stands behind that.
 #[inline(never)]
-fn write_items<'a>(
-    alloc: Global,
-    plain: &[u8],
-    text: &'a [u8],
-) -> Result<Option<(Vec<u8>, &'a [u8])>, AllocError>
+#[tactic(auto, using(crate::proofs::StringLemmas::no_front))]
+fn write_items(alloc: Global, text: &[u8]) -> Result<Option<(Vec<u8>, &[u8])>, AllocError>
     ensures { IfOk result (λ read. option_map (λ r. (r.0.items, r.1.now)) read
-        ≡ with_front plain.now (items 0 text.now)) }
+        ≡ items 0 text.now) }
 {
     let mut pieces = Pieces::new(alloc);
-    pieces.push_slice(plain)?;
-    match push_items(&mut pieces, text)? {
-        Some(rest) => Ok(Some((pieces.into_bytes()?, rest))),
-        None => Ok(None),
-    }
+    let Some(rest) = push_items(&mut pieces, text)? else {
+        return Ok(None);
+    };
+    pieces.let_in()?;
+    Ok(Some((pieces.bytes, rest)))
 }
 
 /// What stands behind the string at the front.
@@ -334,7 +357,7 @@ pub fn read_string(
     if begins(b'"', rest) {
         return Ok(Some((StringBytes::Standing(plain), &rest[1..])));
     }
-    match write_items(alloc, plain, rest)? {
+    match write_items(alloc, inner)? {
         Some((bytes, behind)) => Ok(Some((StringBytes::Written(bytes), behind))),
         None => Ok(None),
     }

@@ -16,7 +16,7 @@ loop-rest-preserved c =
     ∙ ap (with_front bytes) (behind_item rest meaning len c.in-Some-item_at.ensures.some c.in-Some-item_at.ensures.within (ne_eqb _ 34 c.if-first-eq34.false) (sym c.in-Some-item_at.ensures.value))
     ∙ fronts bytes (bytes_of meaning) (items 0 (drop len rest)) ∙ ap (λ front. with_front front (items 0 (drop len rest))) (sym c.in_ok-push_meaning.ensures)
     ∙ ap (λ text. with_front (added c.push_meaning.new.pieces) (items 0 text)) (sym c.split_at.ensures.back)
-    ∙ c.in_ok-rest-2.ensures.pushed
+    ∙ c.in_ok-rest-3.ensures.pushed
 
 pub loop-rest-preserved-in-Some : goal.loop-rest-preserved-in-Some
 loop-rest-preserved-in-Some c =
@@ -27,4 +27,4 @@ loop-rest-preserved-in-Some c =
     ∙ ascii_read bytes rest byte c.in-Some.ensures.value c.in-Some.ensures.small c.in-Some.ensures.within (ne_eqb _ 34 c.if-first-eq34.false)
     ∙ ap (λ front. with_front front (items 0 (drop 6 rest))) (sym c.in_ok-push.ensures)
     ∙ ap (λ text. with_front (added c.push.new.self) (items 0 text)) (sym (take_rest rest 6))
-    ∙ c.in_ok-rest.ensures.pushed
+    ∙ c.in_ok-rest-2.ensures.pushed
