@@ -1,8 +1,8 @@
 mod ArrayLemmas
 pub mod FrontLemmas
-mod ListedLemmas
+pub mod ListedLemmas
 mod MarkLemmas
-mod MemberLemmas
+pub mod MemberLemmas
 mod NumberLemmas
 mod PieceLemmas
 mod PlainLemmas

@@ -3,6 +3,7 @@ mod CastLemmas
 mod DateLemmas
 mod EntryLemmas
 mod FactsLemmas
+mod FieldLemmas
 mod FormLemmas
 mod FrontLemmas
 mod HeaderLemmas
@@ -10,10 +11,12 @@ mod ImportedLemmas
 mod LineLemmas
 mod LogOrderLemmas
 mod MessageLemmas
+mod ObjectLemmas
 mod OneFrontLemmas
 mod OrderLemmas
 mod OutputLemmas
 mod RecordLemmas
 mod RefusalLemmas
+mod StreamLemmas
 mod TtyrecLemmas
 mod TlogLemmas

@@ -1,5 +1,5 @@
 -- The items of a timing and the messages of a recording, one after another.
-use Rattle.std.proofs.Common.{◌≡◌, ℕ, zero, suc, ◌+◌, ◌-◌, ◌<◌, ◌≤◌, ◌&&◌, Bool, fold, max, min, nat_le, nat_lt, if◌then◌else◌, true, false, List, [], ◌∷◌, length, take, drop, get_or, Option, Some, None, refl, ap, sym, ◌∙◌, arith, unwrap_or}
+use Rattle.std.proofs.Common.{All, IfSome, append-nil, nat_eq, subst, ◌≡◌, ℕ, zero, suc, ◌+◌, ◌-◌, ◌<◌, ◌≤◌, ◌&&◌, Bool, fold, max, min, nat_le, nat_lt, if◌then◌else◌, true, false, List, [], ◌∷◌, ◌++◌, length, take, drop, get_or, Option, Some, None, refl, ap, sym, ◌∙◌, arith, unwrap_or}
 use Rattle.std.specs.List.{prefix_len}
 use Rattle.std.specs.Option.{option_map}
 use Rattle.std.specs.Char.{is_ascii_digit}
@@ -9,6 +9,7 @@ use Rattle.std.proofs.Math.Seq.{drop-cons}
 use Rattle.std.proofs.lemmas.Bool.{le-leb}
 use Rattle.std.proofs.lemmas.Bool.Decides.{nat_tests}
 use Rattle.std.proofs.lemmas.List.{take_all}
+use Rattle.std.proofs.lemmas.List.Elements.{All-append, All-cons, All-nil}
 use Rattle.std.proofs.lemmas.Str.{digit_value_digit}
 use Rattle.std.proofs.lemmas.Str.Parse.{IsNumeralModel, digits_value_short}
 use Rattle.std.specs.Char.{digit_value}
@@ -19,7 +20,8 @@ use Rattle.json_bytes.specs.Arrays.{bytes_of}
 use Rattle.json_bytes.specs.Listed.{standing}
 use Rattle.json_bytes.specs.Values.{Json, found, null, number_of, string_of, value}
 use Rattle.tape_import.specs.Asciicast.{left_from, what_fault}
-use Rattle.tape_import.specs.KeptTlog.{continued_len, what_taken}
+use Rattle.tape_import.specs.KeptCast.{IsSized}
+use Rattle.tape_import.specs.KeptTlog.{continued_len, event_taken, events_at}
 use Rattle.tape_import.specs.Tlog.{Taken, messages, on_line, take_on, with_events, with_line}
 use Rattle.tape_import.specs.TlogTiming.{Progress, Step, Story, characters_len, go_on, goes_on, items, step_at, with_event}
 use Rattle.tape_import.specs.declared.asciicast.Cast.{Cast}
@@ -140,12 +142,38 @@ pub item_none : (most : ℕ) (so_far : Progress) (rest : List ℕ) → length re
 item_none most so_far [] none = items_end most so_far
 item_none most so_far (b ∷ bs) none = absurd (omega arith)
 
+-- what is told at a moment stands before what the items behind it tell
+pub event_added : (time : ℕ) (what : Option What) (so_far : Progress) (story : Story) → so_far.moment ≡ time
+    → (with_event (record { what = what; behind = so_far }) what story).events ≡ events_at time what ++ story.events
+event_added time None so_far story is = refl
+event_added time (Some found) so_far story is = ap (λ t. record { time = t; what = found } ∷ story.events) is
+
 pub same_whole : (step : Step) (what : Option What) (story : Story) → (with_event step what story).whole ≡ story.whole
 same_whole step None story = refl
 same_whole step (Some found) story = refl
 
--- what is taken of an item, and of those behind it
-abbrev pub alone : Cast → Taken
+-- no item is left
+pub ends_whole : (most : ℕ) (so_far : Progress) (rest : List ℕ) → most ≡ 0 → (items most so_far rest).whole ≡ nat_eq (length rest) 0
+ends_whole zero so_far [] none = refl
+ends_whole zero so_far (b ∷ bs) none = grind (arith, nat_tests)
+ends_whole (suc most) so_far rest none = absurd (omega arith)
+
+pub no_events : (most : ℕ) (so_far : Progress) (rest : List ℕ) → most ≡ 0 → (items most so_far rest).events ≡ []
+no_events zero so_far [] none = refl
+no_events zero so_far (b ∷ bs) none = refl
+no_events (suc most) so_far rest none = absurd (omega arith)
+
+-- the sizes that events tell can be told
+pub sized_more : (events : List Event) (time : ℕ) (what : Option What) → All (λ e. IsSized e.what) events → IfSome what IsSized
+    → All (λ e. IsSized e.what) (events ++ events_at time what)
+sized_more events time None all one = subst (λ (es : List Event). All (λ e. IsSized e.what) es) (sym (append-nil events)) all
+sized_more events time (Some found) all one =
+    let Sized : Event → Type 0 = λ e. IsSized e.what in
+    let here : Event = record { time = time; what = found } in
+    All-append Sized events (here ∷ []) all (All-cons Sized here [] one (All-nil Sized))
+
+-- what is taken of an event, and of those behind it
+abbrev alone : Cast → Taken
 alone next = record { cast = next; fault = None }
 
 on_by : (more : Cast → Taken) (so_far next : Cast) (found : Event) (fault : Option EventFault) → take_on alone so_far found fault ≡ alone next → take_on more so_far found fault ≡ more next
@@ -157,17 +185,13 @@ ends_by : (more : Cast → Taken) (so_far next : Cast) (found : Event) (fault : 
 ends_by more so_far next found None f is = let no : None ≡ Some f = ap (λ (t : Taken). t.fault) is in cc
 ends_by more so_far next found (Some g) f is = is
 
-pub item_taken : (step : Step) (what : Option What) (story : Story) (so_far next : Cast) → what_taken step.behind.moment what so_far ≡ record { cast = next; fault = None }
-    → with_events (with_event step what story).events so_far ≡ with_events story.events next
-item_taken step None story so_far next is = ap (with_events story.events) (ap (λ (t : Taken). t.cast) is)
-item_taken step (Some found) story so_far next is =
-    on_by (with_events story.events) so_far next (record { time = step.behind.moment; what = found }) (what_fault found so_far.outputs) is
+pub event_goes_on : (found : Event) (more : List Event) (so_far next : Cast) → event_taken found so_far ≡ record { cast = next; fault = None }
+    → with_events (found ∷ more) so_far ≡ with_events more next
+event_goes_on found more so_far next is = on_by (with_events more) so_far next found (what_fault found.what so_far.outputs) is
 
-pub item_ends : (step : Step) (what : Option What) (story : Story) (so_far next : Cast) (f : EventFault) → what_taken step.behind.moment what so_far ≡ record { cast = next; fault = Some f }
-    → with_events (with_event step what story).events so_far ≡ record { cast = next; fault = Some f }
-item_ends step None story so_far next f is = let no : None ≡ Some f = ap (λ (t : Taken). t.fault) is in cc
-item_ends step (Some found) story so_far next f is =
-    ends_by (with_events story.events) so_far next (record { time = step.behind.moment; what = found }) (what_fault found so_far.outputs) f is
+pub event_ends : (found : Event) (more : List Event) (so_far next : Cast) (f : EventFault) → event_taken found so_far ≡ record { cast = next; fault = Some f }
+    → with_events (found ∷ more) so_far ≡ record { cast = next; fault = Some f }
+event_ends found more so_far next f is = ends_by (with_events more) so_far next found (what_fault found.what so_far.outputs) f is
 
 -- one line more
 pub line_taken : (number : ℕ) (log next : Log) (line : List ℕ) (more : List (List ℕ)) → with_line (on_line (number + 1) log) line ≡ record { log = next; fault = None }

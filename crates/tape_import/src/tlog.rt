@@ -1,19 +1,21 @@
 //! A recording of tlog: messages, one behind another.
-ghost use Rattle.std.specs.Prelude.{◌≡◌, ◌^◌, IfOk, IsTrue, None, OnOk, Some};
-ghost use Rattle.tape_import.specs.KeptCast.{HasSizes, IsCounted};
-ghost use Rattle.tape_import.specs.KeptTlog.{CanHead, CanLog, IsSizedItem, shown_item, what_taken};
-ghost use Rattle.tape_import.specs.Tlog.{at_start, first_by, is_same_name, log_of, order_fault, with_events, with_line, with_ordered};
-ghost use Rattle.tape_import.specs.TlogTiming.{story_of};
+ghost use Rattle.std.specs.Prelude.{◌≡◌, ◌^◌, All, IfOk, IsTrue, None, OnOk, Some};
+ghost use Rattle.std.specs.Option.{option_map};
+ghost use Rattle.json_bytes.specs.Strings.{meant};
+ghost use Rattle.tape_import.specs.KeptCast.{HasSizes, IsCounted, IsSized};
+ghost use Rattle.tape_import.specs.KeptTlog.{CanLog, event_taken, shown_head};
+ghost use Rattle.tape_import.specs.Tlog.{at_start, first_by, is_same_name, log_of, order_fault, with_events, with_line, with_taken};
 
 use crate::asciicast::{Cast, left_from};
-use crate::event::{Event, What};
+use crate::event::Event;
 use crate::fault::EventFault;
 use crate::lines::{is_blank_line, next_line};
 use crate::losses::Left;
-use crate::tlog_message::{Head, Message, read_message};
-use crate::tlog_timing::{Item, at_front};
+use crate::tlog_message::{Head, HeadRead, read_message};
 use crate::version::Version;
+use json_bytes::StringBytes;
 use std::alloc::{AllocError, Global};
+use std::collections::VecDeque;
 use tape_core::Bytes;
 
 /// What was read so far: the outputs and what is left out, as of an asciicast; what the first message tells of the
@@ -45,77 +47,46 @@ fn can_count(cast: &Cast) -> bool
         && cast.others.others <= MOST_COUNTED
 }
 
-/// What an item tells, with an output's bytes copied.
-fn what_of(alloc: Global, item: Item<'_>) -> Result<Option<What>, AllocError>
-    ensures { IfOk result (λ what. what ≡ shown_item item.entry) }
-{
-    match item {
-        Item::Nothing => Ok(None),
-        Item::Output(bytes) => Ok(Some(What::Output(Bytes::copy_of(alloc, bytes)?))),
-        Item::Input => Ok(Some(What::Input)),
-        Item::Resize(size) => Ok(Some(What::Resize(size))),
-    }
-}
-
-/// Takes what an item tells at a moment, or tells its fault, and then nothing changes. Refused also where there is no
-/// counting it.
-fn take_item(
-    cast: &mut Cast,
-    alloc: Global,
-    time: u64,
-    item: Item<'_>,
-) -> Result<Option<EventFault>, AllocError>
+/// Takes an event, or tells its fault, and then nothing changes. Refused also where there is no counting it.
+fn take_event(cast: &mut Cast, event: Event) -> Result<Option<EventFault>, AllocError>
     requires sizes { HasSizes cast.old }
-    requires sized { IsSizedItem item }
-    ensures taken { IfOk result (λ fault. what_taken time (shown_item item.entry) cast.old
-        ≡ record { cast = cast.new; fault = fault }) }
+    requires sized { IsSized event.what }
+    ensures taken { IfOk result (λ fault.
+        event_taken event cast.old ≡ record { cast = cast.new; fault = fault }) }
     ensures sizes { OnOk result (HasSizes cast.new) }
 {
-    let Some(what) = what_of(alloc, item)? else {
-        return Ok(None);
-    };
-    if let Some(fault) = cast.fault_of(&what) {
+    if let Some(fault) = cast.fault_of(&event.what) {
         return Ok(Some(fault));
     }
     if !can_count(cast) {
         return Err(AllocError);
     }
-    cast.take(Version::Two, Event { time, what })?;
+    cast.take(Version::Two, event)?;
     Ok(None)
 }
 
 /// Takes what a message tells, up to the first output that has a fault, which is told.
-fn take_story(
+fn take_events(
     cast: &mut Cast,
-    alloc: Global,
-    message: &Message,
+    events: &mut VecDeque<Event>,
 ) -> Result<Option<EventFault>, AllocError>
-    requires { HasSizes cast.old }
-    ensures taken { IfOk result (λ fault. with_events (story_of message.now).events cast.old
+    requires sizes { HasSizes cast.old }
+    requires sized { All (λ e. IsSized e.what) events.old.items }
+    ensures taken { IfOk result (λ fault. with_events events.old.items cast.old
         ≡ record { cast = cast.new; fault = fault }) }
     ensures sizes { OnOk result (HasSizes cast.new) }
 {
-    let mut so_far = at_front(message);
-    let mut rest = message.timing.as_slice();
-    for _ in 0..message.timing.len() {
-        let [sign, text @ ..] = rest else {
-            return Ok(None);
-        };
-        let Some((step, behind)) = so_far.step_at(*sign, text) else {
-            return Ok(None);
-        };
-        if let Some(fault) = take_item(cast, alloc, step.behind.moment, step.item)? {
+    while let Some(event) = events.pop_front() {
+        if let Some(fault) = take_event(cast, event)? {
             return Ok(Some(fault));
         }
-        so_far = step.behind;
-        rest = behind;
     }
     Ok(None)
 }
 
 /// Whether two messages name the same recording, or none.
-fn is_same_name(one: &Option<Bytes>, other: &Option<Bytes>) -> bool
-    ensures { result ≡ is_same_name one.now other.now }
+fn is_same_name(one: &Option<Bytes>, other: &Option<StringBytes>) -> bool
+    ensures { result ≡ is_same_name one.now (option_map meant other.now) }
 {
     match (one, other) {
         (None, None) => true,
@@ -137,8 +108,8 @@ impl Log {
     }
 
     /// That a message isn't the one behind the last one, if so.
-    fn order_fault(&self, head: &Head) -> Option<EventFault>
-        ensures { result ≡ order_fault self.now.first self.now.last head.now }
+    fn order_fault(&self, head: &HeadRead) -> Option<EventFault>
+        ensures { result ≡ order_fault self.now.first self.now.last (shown_head head.now) }
     {
         let Some(first) = &self.first else {
             return None;
@@ -152,38 +123,45 @@ impl Log {
     }
 
     /// Keeps what a message tells of the recording.
-    fn pass_head(&mut self, head: Head)
-        requires can { CanHead head }
-        requires log { CanLog self.old }
-        ensures log { self.new ≡ record self.old
-            { first = Some (first_by self.old.first head); last = head.number } }
-        ensures can { CanLog self.new }
+    fn pass_head(&mut self, alloc: Global, head: &HeadRead) -> Result<(), AllocError>
+        requires { CanLog self.old }
+        ensures log { OnOk result (self.new ≡ record self.old
+            { first = Some (first_by self.old.first (shown_head head.now)); last = head.now.number }) }
+        ensures can { OnOk result (CanLog self.new) }
     {
         self.last = head.number;
         if self.first.is_none() {
-            self.first = Some(head);
+            self.first = Some(head.worked_out(alloc)?);
         }
+        Ok(())
     }
 
     /// Takes what a message in order tells, up to the first output that has a fault, which is told.
     fn take_message(
         &mut self,
         alloc: Global,
-        message: Message,
+        head: &HeadRead,
+        events: &mut VecDeque<Event>,
     ) -> Result<Option<EventFault>, AllocError>
-        requires head { CanHead message.head }
         requires log { CanLog self.old }
-        ensures taken { IfOk result (λ fault. with_ordered self.old message None
+        requires sized { All (λ e. IsSized e.what) events.old.items }
+        ensures taken { IfOk result (λ fault.
+            with_taken self.old (shown_head head.now) (with_events events.old.items self.old.cast)
             ≡ record { log = self.new; fault = fault }) }
         ensures can { OnOk result (CanLog self.new) }
     {
-        let fault = take_story(&mut self.cast, alloc, &message)?;
-        self.pass_head(message.head);
+        let fault = take_events(&mut self.cast, events)?;
+        self.pass_head(alloc, head)?;
         Ok(fault)
     }
 
-    /// Reads a line, up to its fault, which is told.
-    fn take_line(&mut self, alloc: Global, line: &[u8]) -> Result<Option<EventFault>, AllocError>
+    /// Reads a line, up to its fault, which is told. The list of events is but a place for them.
+    fn take_line(
+        &mut self,
+        alloc: Global,
+        line: &[u8],
+        events: &mut VecDeque<Event>,
+    ) -> Result<Option<EventFault>, AllocError>
         requires { CanLog self.old }
         ensures taken { IfOk result (λ fault. with_line self.old line.now
             ≡ record { log = self.new; fault = fault }) }
@@ -192,13 +170,14 @@ impl Log {
         if is_blank_line(line) {
             return Ok(None);
         }
-        let Some(message) = read_message(alloc, line)? else {
+        events.clear();
+        let Some(head) = read_message(alloc, line, events)? else {
             return Ok(Some(EventFault::BadEvent));
         };
-        if let Some(fault) = self.order_fault(&message.head) {
+        if let Some(fault) = self.order_fault(&head) {
             return Ok(Some(fault));
         }
-        self.take_message(alloc, message)
+        self.take_message(alloc, &head, events)
     }
 }
 
@@ -208,13 +187,14 @@ pub fn read_log(alloc: Global, text: &[u8]) -> Result<LogFront, AllocError>
     ensures can { IfOk result (λ front. CanLog front.log) }
 {
     let mut log = Log::at_start(alloc);
+    let mut events = VecDeque::new(alloc);
     let mut rest = text;
     let mut number = 0;
     while !rest.is_empty() {
         let (line, after) = next_line(rest);
         number += 1;
         log.cast.line = number;
-        if let Some(fault) = log.take_line(alloc, line)? {
+        if let Some(fault) = log.take_line(alloc, line, &mut events)? {
             let left = left_from(number, rest, fault);
             return Ok(LogFront { log, left });
         }

@@ -1,23 +1,33 @@
 //! The messages of tlog, a JSON text in each line.
-ghost use Rattle.std.specs.Prelude.{◌≡◌, ◌≤◌, IfOk, IfSome, Some, codes};
+ghost use Rattle.std.specs.Prelude.{◌≡◌, ◌≤◌, ◌++◌, All, ℕ, IfOk, IfSome, List, MatchOption, None, OnOk, Option, Some};
 ghost use Rattle.std.specs.List.{AllPass};
+ghost use Rattle.std.specs.Option.{option_map};
 ghost use Rattle.json_bytes.specs.Arrays.{bytes_of};
 ghost use Rattle.json_bytes.specs.Listed.{valued};
-ghost use Rattle.json_bytes.specs.Values.{string_of};
-ghost use Rattle.tape_import.specs.Asciicast.{date_of, term_by};
+ghost use Rattle.json_bytes.specs.Strings.{meant};
+ghost use Rattle.json_bytes.specs.Values.{Json, string_of};
+ghost use Rattle.tape_import.specs.Asciicast.{date_of, term_of};
 ghost use Rattle.tape_import.specs.Dates.{last_second};
 ghost use Rattle.tape_import.specs.Facts.{is_term_byte};
-ghost use Rattle.tape_import.specs.KeptTlog.{CanHead, told};
-ghost use Rattle.tape_import.specs.TlogMessage.{count_of, given_bytes, given_text, head_of, is_minor, is_version, is_versioned, message_of, message_told, short_number, stream_by};
+ghost use Rattle.tape_import.specs.KeptCast.{IsSized};
+ghost use Rattle.tape_import.specs.KeptTlog.{CanHead, IsRead, Tells, shown_head, shown_stream};
+ghost use Rattle.tape_import.specs.TlogMessage.{count_of, is_minor, is_version, is_versioned, message_of, message_told, short_number, stream_by};
+ghost use Rattle.tape_import.specs.TlogTiming.{story_of};
+ghost use Rattle.tape_import.specs.declared.tlog_message.Message.{Message};
 
 use crate::cast_header::{date_at, term_by};
-use crate::tlog_timing::is_whole;
-use json_bytes::{Member, ReadValue, bytes_in, named, whole_members};
+use crate::event::Event;
+use crate::tlog_fields::{Fields, Given, read_fields};
+use crate::tlog_stream::Rest;
+use crate::tlog_timing::Progress;
+use json_bytes::{ReadValue, StringBytes, bytes_in};
 use std::alloc::{AllocError, Global};
+use std::collections::VecDeque;
 use tape_core::Bytes;
 use tape_core::text::read_number;
 
-/// What was typed, or what was shown, in a message: characters, and bytes that are none.
+/// What was typed, or what was shown, in a message: characters, and bytes that are none. The definitions speak of it;
+/// what is read of a line is a `Rest` of it.
 #[derive(Debug, Drop)]
 pub struct Stream {
     pub text: Bytes,
@@ -34,7 +44,8 @@ pub struct Head {
     pub date: Option<u64>,
 }
 
-/// A message: its moment in milliseconds, and what was typed and shown from then on, by its timing.
+/// A message: its moment in milliseconds, and what was typed and shown from then on, by its timing. The definitions speak
+/// of it; what is read of a line is a `MessageRead`.
 #[derive(Debug, Drop)]
 pub struct Message {
     pub head: Head,
@@ -44,24 +55,21 @@ pub struct Message {
     pub shown: Stream,
 }
 
-/// The bytes that a value means as a string.
-fn text_of(alloc: Global, value: &ReadValue) -> Result<Option<Bytes>, AllocError>
-    ensures { IfOk result (λ text. text ≡ string_of (Some (valued 63 value.now))) }
-{
-    match value.text(alloc)? {
-        Some(text) => Ok(Some(Bytes::copy_of(alloc, text.as_slice())?)),
-        None => Ok(None),
-    }
+/// What a message tells of its recording, as it stands in its line: it is worked out of the first one alone.
+#[derive(Drop)]
+pub struct HeadRead<'a> {
+    pub number: u64,
+    pub recording: Option<StringBytes<'a>>,
+    pub term: Option<ReadValue<'a>>,
+    pub time: Option<ReadValue<'a>>,
 }
 
-/// The string that the member of this name is.
-fn text_told(alloc: Global, members: &[Member], name: &[u8]) -> Result<Option<Bytes>, AllocError>
-    ensures { IfOk result (λ text. text ≡ string_of (told members.now name.now)) }
-{
-    match named(members, name) {
-        Some(value) => text_of(alloc, value),
-        None => Ok(None),
-    }
+/// A message, as it stands in its line: of its timing nothing has come yet.
+#[derive(Drop)]
+pub struct MessageRead<'a> {
+    pub head: HeadRead<'a>,
+    pub timing: StringBytes<'a>,
+    pub so_far: Progress<'a>,
 }
 
 /// Whether this is a version of the format that is read.
@@ -85,13 +93,11 @@ fn is_minor(text: &[u8]) -> bool
     }
 }
 
-/// Whether the message is of such a version.
-fn is_versioned(alloc: Global, members: &[Member]) -> Result<bool, AllocError>
-    ensures { IfOk result (λ is. is ≡ is_versioned (string_of (told members.now (codes "ver")))) }
+/// Whether a value is such a version.
+#[inline]
+pub fn is_versioned(alloc: Global, value: &ReadValue) -> Result<bool, AllocError>
+    ensures { IfOk result (λ is. is ≡ is_versioned (string_of (Some (valued 63 value.now)))) }
 {
-    let Some(value) = named(members, b"ver") else {
-        return Ok(false);
-    };
     match value.text(alloc)? {
         Some(text) => Ok(is_version(text.as_slice())),
         None => Ok(false),
@@ -109,150 +115,139 @@ fn short_number(text: &[u8]) -> Option<u64>
     }
 }
 
-/// The number that the member of this name is.
-fn count_told(members: &[Member], name: &[u8]) -> Option<u64>
-    ensures { result ≡ count_of (told members.now name.now) }
+/// The number that a value is.
+#[inline]
+pub fn count_of(value: &ReadValue) -> Option<u64>
+    ensures { result ≡ count_of (Some (valued 63 value.now)) }
 {
-    short_number(named(members, name)?.plain_digits()?)
-}
-
-/// The text that the member of this name gives, which may be left out.
-fn text_given(alloc: Global, members: &[Member], name: &[u8]) -> Result<Option<Bytes>, AllocError>
-    ensures { IfOk result (λ text. text ≡ given_text (told members.now name.now)) }
-{
-    match named(members, name) {
-        Some(value) => text_of(alloc, value),
-        None => Ok(Some(Bytes::from_vec(Vec::new(alloc)))),
-    }
+    short_number(value.plain_digits()?)
 }
 
 /// The bytes that a value tells as an array of numbers.
-fn bytes_of(alloc: Global, value: &ReadValue) -> Result<Option<Bytes>, AllocError>
-    ensures { IfOk result (λ bytes. bytes ≡ bytes_of (Some (valued 63 value.now))) }
+pub fn bytes_of(alloc: Global, value: &ReadValue) -> Result<Option<Vec<u8>>, AllocError>
+    ensures { IfOk result (λ bytes.
+        option_map (λ b. b.items) bytes ≡ bytes_of (Some (valued 63 value.now))) }
 {
-    let ReadValue::Other(place) = value else {
-        return Ok(None);
+    match value {
+        ReadValue::Text(_) => Ok(None),
+        ReadValue::Other(place) => {
+            let bytes = bytes_in(alloc, place)?;
+            Ok(bytes)
+        }
+    }
+}
+
+impl HeadRead<'_> {
+    /// The terminal's name.
+    fn term(&self, alloc: Global) -> Result<Option<Bytes>, AllocError>
+        ensures term { IfOk result (λ term.
+            term ≡ term_of (option_map (valued 63) self.now.term)) }
+        ensures bytes { IfOk result (λ term. IfSome term (AllPass is_term_byte)) }
+    {
+        let Some(value) = &self.term else {
+            return Ok(None);
+        };
+        match value.text(alloc)? {
+            Some(text) => term_by(alloc, text.as_slice()),
+            None => Ok(None),
+        }
+    }
+
+    /// The second at which the recording began.
+    fn date(&self) -> Option<u64>
+        ensures second { result ≡ date_of (option_map (valued 63) self.now.time) }
+        ensures last { IfSome result (λ s. s ≤ last_second) }
+    {
+        match &self.time {
+            Some(ReadValue::Other(place)) => date_at(place),
+            _ => None,
+        }
+    }
+
+    /// The recording's name.
+    fn recording(&self, alloc: Global) -> Result<Option<Bytes>, AllocError>
+        ensures { IfOk result (λ name. name ≡ (shown_head self.now).recording) }
+    {
+        match &self.recording {
+            Some(name) => Ok(Some(Bytes::copy_of(alloc, name.as_slice())?)),
+            None => Ok(None),
+        }
+    }
+
+    /// All of it.
+    pub fn worked_out(&self, alloc: Global) -> Result<Head, AllocError>
+        ensures head { IfOk result (λ head. head ≡ shown_head self.now) }
+        ensures can { IfOk result CanHead }
+    {
+        Ok(Head {
+            number: self.number,
+            recording: self.recording(alloc)?,
+            term: self.term(alloc)?,
+            date: self.date(),
+        })
+    }
+}
+
+/// All of a stream, where both of its parts are what they have to be.
+fn all_of(given: Given<'_>) -> Option<Rest<'_>>
+    ensures { option_map shown_stream result
+        ≡ stream_by (option_map meant given.entry.text) (option_map (λ b. b.items) given.entry.bytes) }
+{
+    Some(Rest::all(given.text?, given.bytes?))
+}
+
+/// The message that members tell, whatever its timing is.
+fn message_told(fields: Fields<'_>) -> Option<MessageRead<'_>>
+    ensures { (told : List ℕ → Option Json) → Tells told fields.entry
+        → MatchOption result (message_told told ≡ None)
+        (λ read. (message : Message) × (message_told told ≡ Some message) × IsRead message read) }
+{
+    if !fields.is_versioned {
+        return None;
+    }
+    let number = fields.number?;
+    let pos = fields.pos?;
+    let timing = fields.timing?;
+    let typed = all_of(fields.typed)?;
+    let Some(shown) = all_of(fields.shown) else {
+        return None;
     };
-    match bytes_in(alloc, place)? {
-        Some(bytes) => Ok(Some(Bytes::from_vec(bytes))),
-        None => Ok(None),
-    }
-}
-
-/// The bytes that the member of this name gives, which may be left out.
-fn bytes_given(alloc: Global, members: &[Member], name: &[u8]) -> Result<Option<Bytes>, AllocError>
-    ensures { IfOk result (λ bytes. bytes ≡ given_bytes (told members.now name.now)) }
-{
-    match named(members, name) {
-        Some(value) => bytes_of(alloc, value),
-        None => Ok(Some(Bytes::from_vec(Vec::new(alloc)))),
-    }
-}
-
-/// The stream of which the members of these names give the text and the bytes.
-fn read_stream(
-    alloc: Global,
-    members: &[Member],
-    text: &[u8],
-    bytes: &[u8],
-) -> Result<Option<Stream>, AllocError>
-    ensures { IfOk result (λ stream. stream ≡ stream_by (given_text (told members.now text.now))
-        (given_bytes (told members.now bytes.now))) }
-{
-    let Some(text) = text_given(alloc, members, text)? else {
-        return Ok(None);
-    };
-    match bytes_given(alloc, members, bytes)? {
-        Some(bytes) => Ok(Some(Stream { text, bytes })),
-        None => Ok(None),
-    }
-}
-
-/// The terminal's name.
-fn read_term(alloc: Global, members: &[Member]) -> Result<Option<Bytes>, AllocError>
-    ensures term { IfOk result (λ term. term
-        ≡ term_by (string_of (told members.now (codes "term")))) }
-    ensures bytes { IfOk result (λ term. IfSome term (AllPass is_term_byte)) }
-{
-    let Some(value) = named(members, b"term") else {
-        return Ok(None);
-    };
-    match value.text(alloc)? {
-        Some(text) => term_by(alloc, text.as_slice()),
-        None => Ok(None),
-    }
-}
-
-/// The second at which the recording began.
-fn read_date(members: &[Member]) -> Option<u64>
-    ensures second { result ≡ date_of (told members.now (codes "time")) }
-    ensures last { IfSome result (λ s. s ≤ last_second) }
-{
-    match named(members, b"time")? {
-        ReadValue::Other(place) => date_at(place),
-        ReadValue::Text(_) => None,
-    }
-}
-
-/// What the message tells of its recording.
-fn read_head(alloc: Global, members: &[Member]) -> Result<Option<Head>, AllocError>
-    ensures head { IfOk result (λ head. head ≡ head_of (told members.now)) }
-    ensures can { IfOk result (λ head. IfSome head CanHead) }
-{
-    let Some(number) = count_told(members, b"id") else {
-        return Ok(None);
-    };
-    Ok(Some(Head {
+    let head = HeadRead {
         number,
-        recording: text_told(alloc, members, b"rec")?,
-        term: read_term(alloc, members)?,
-        date: read_date(members),
-    }))
-}
-
-/// The message of these members, whatever its timing is.
-fn message_told(alloc: Global, members: &[Member]) -> Result<Option<Message>, AllocError>
-    ensures message { IfOk result (λ message. message ≡ message_told (told members.now)) }
-    ensures can { IfOk result (λ message. IfSome message (λ m. CanHead m.head)) }
-{
-    if !is_versioned(alloc, members)? {
-        return Ok(None);
-    }
-    let Some(head) = read_head(alloc, members)? else {
-        return Ok(None);
+        recording: fields.recording,
+        term: fields.term,
+        time: fields.time,
     };
-    let Some(pos) = count_told(members, b"pos") else {
-        return Ok(None);
-    };
-    let Some(timing) = text_told(alloc, members, b"timing")? else {
-        return Ok(None);
-    };
-    let Some(typed) = read_stream(alloc, members, b"in_txt", b"in_bin")? else {
-        return Ok(None);
-    };
-    let Some(shown) = read_stream(alloc, members, b"out_txt", b"out_bin")? else {
-        return Ok(None);
-    };
-    Ok(Some(Message {
+    Some(MessageRead {
         head,
-        pos,
         timing,
-        typed,
-        shown,
-    }))
+        so_far: Progress::at_front(pos, typed, shown),
+    })
 }
 
-/// The message that a line is.
-pub fn read_message(alloc: Global, line: &[u8]) -> Result<Option<Message>, AllocError>
-    ensures message { IfOk result (λ message. message ≡ message_of line.now) }
-    ensures can { IfOk result (λ message. IfSome message (λ m. CanHead m.head)) }
+/// What the message that a line is tells of its recording; what its timing tells is added.
+pub fn read_message<'a>(
+    alloc: Global,
+    line: &'a [u8],
+    events: &mut VecDeque<Event>,
+) -> Result<Option<HeadRead<'a>>, AllocError>
+    requires { All (λ e. IsSized e.what) events.old.items }
+    ensures message { IfOk result (λ read. MatchOption read (message_of line.now ≡ None)
+        (λ head. (message : Message) × (message_of line.now ≡ Some message)
+        × (shown_head head ≡ message.head)
+        × (events.new.items ≡ events.old.items ++ (story_of message).events))) }
+    ensures sized { OnOk result (All (λ e. IsSized e.what) events.new.items) }
 {
-    let members = whole_members(alloc, line)?;
-    let Some(message) = message_told(alloc, &members)? else {
+    let Some(message) = message_told(read_fields(alloc, line)?) else {
         return Ok(None);
     };
-    if is_whole(&message) {
-        Ok(Some(message))
+    let MessageRead {
+        head,
+        timing,
+        mut so_far,
+    } = message;
+    if so_far.read_story(alloc, timing.as_slice(), events)? {
+        Ok(Some(head))
     } else {
         Ok(None)
     }

@@ -1,17 +1,21 @@
 //! The timing of a message of tlog: which of its characters and bytes came, or were typed, when.
-ghost use Rattle.std.specs.Prelude.{◌≡◌, ◌≤◌, IfSome, Some, fold, length, max, true};
+ghost use Rattle.std.specs.Prelude.{◌≡◌, ◌≤◌, ◌++◌, All, IfOk, IfSome, MatchOption, None, OnOk, Some, fold, length, max, true};
 ghost use Rattle.std.specs.Char.{is_ascii_digit};
 ghost use Rattle.std.specs.List.{AllPass, prefix_len};
 ghost use Rattle.std.specs.Option.{option_map};
 ghost use Rattle.json_bytes.specs.Values.{as_part};
 ghost use Rattle.tape_import.specs.Asciicast.{sided};
 ghost use Rattle.tape_import.specs.Kept.{IsSize};
-ghost use Rattle.tape_import.specs.KeptTlog.{IsSizedItem, IsSizedWord, continued_len, shown_progress, shown_step, shown_stream};
-ghost use Rattle.tape_import.specs.TlogTiming.{at_front, behind_shown, behind_typed, both_counted, bytes_taken, characters_len, counted, digits_at, goes_on, later, step_at, step_by, story_of, text_taken, two_at, word_behind};
+ghost use Rattle.tape_import.specs.KeptCast.{IsSized};
+ghost use Rattle.tape_import.specs.KeptTlog.{IsSizedWord, continued_len, events_at, shown_progress, shown_stream, step_behind};
+ghost use Rattle.tape_import.specs.TlogTiming.{both_counted, characters_len, counted, digits_at, goes_on, items, later, step_at, step_by, two_at, word_behind};
 
+use crate::event::{Event, What};
 use crate::facts::{Size, side, size_of};
-use crate::tlog_message::{Message, Stream};
+use crate::tlog_stream::Rest;
 use json_bytes::split_digits;
+use std::alloc::{AllocError, Global};
+use std::collections::VecDeque;
 use tape_core::limits::LAST_MOMENT;
 use tape_core::text::number;
 
@@ -27,35 +31,12 @@ pub enum Word {
     Window(Option<Size>),
 }
 
-/// What is left of a stream.
-#[derive(Clone, Copy)]
-pub struct Rest<'a> {
-    pub text: &'a [u8],
-    pub bytes: &'a [u8],
-}
-
 /// How far a timing has come: the moment, in microseconds, and what is left of what was typed and of what was shown.
-#[derive(Clone, Copy)]
+#[derive(Drop)]
 pub struct Progress<'a> {
     pub moment: u64,
     pub typed: Rest<'a>,
     pub shown: Rest<'a>,
-}
-
-/// What an item tells of the recording: nothing, an output's bytes, an input, or a change of size.
-#[derive(Clone, Copy)]
-pub enum Item<'a> {
-    Nothing,
-    Output(&'a [u8]),
-    Input,
-    Resize(Option<Size>),
-}
-
-/// What an item tells, and how far the timing has come behind it.
-#[derive(Clone, Copy)]
-pub struct Step<'a> {
-    pub item: Item<'a>,
-    pub behind: Progress<'a>,
 }
 
 /// Whether a byte goes on with a character.
@@ -100,7 +81,7 @@ fn are_characters(text: &[u8], count: usize) -> bool
 }
 
 /// How many bytes the first so many characters of a text have.
-fn characters_len(text: &[u8], count: u64) -> Option<usize>
+pub fn characters_len(text: &[u8], count: u64) -> Option<usize>
     ensures len { result ≡ characters_len count text.now }
     ensures within { IfSome result (λ len. len ≤ length text.now) }
 {
@@ -133,41 +114,6 @@ fn continued_len(text: &[u8], count: u64) -> Option<usize>
         len += 1;
     }
     if left == 0 { Some(len) } else { None }
-}
-
-/// All of a stream.
-fn rest_of(stream: &Stream) -> Rest<'_>
-    ensures { shown_stream result ≡ stream.now }
-{
-    Rest {
-        text: stream.text.as_slice(),
-        bytes: stream.bytes.as_slice(),
-    }
-}
-
-impl<'a> Rest<'a> {
-    /// Takes the first so many characters off the text.
-    fn take_text(self, count: u64) -> Option<(&'a [u8], Rest<'a>)>
-        ensures { option_map (λ r. (r.0.now, shown_stream r.1)) result
-            ≡ text_taken count (shown_stream self.entry) }
-    {
-        let (taken, text) = self.text.split_at(characters_len(self.text, count)?);
-        let bytes = self.bytes;
-        Some((taken, Rest { text, bytes }))
-    }
-
-    /// Takes the first so many bytes, in place of so many characters of the text.
-    fn take_bytes(self, skipped: u64, count: u64) -> Option<(&'a [u8], Rest<'a>)>
-        ensures { option_map (λ r. (r.0.now, shown_stream r.1)) result
-            ≡ bytes_taken skipped count (shown_stream self.entry) }
-    {
-        if count > self.bytes.len() as u64 {
-            return None;
-        }
-        let (_, text) = self.text.split_at(characters_len(self.text, skipped)?);
-        let (taken, bytes) = self.bytes.split_at(count as usize);
-        Some((taken, Rest { text, bytes }))
-    }
 }
 
 /// The digits at the front, one or more, and what stands behind them.
@@ -274,101 +220,111 @@ fn later(moment: u64, ms: u64) -> u64
         .min(LAST_MOMENT)
 }
 
+/// Adds what an item tells at a moment, if anything.
+fn keep(events: &mut VecDeque<Event>, time: u64, what: Option<What>) -> Result<(), AllocError>
+    ensures { OnOk result (events.new.items ≡ events.old.items ++ events_at time what) }
+{
+    let Some(what) = what else {
+        return Ok(());
+    };
+    events.push_back(Event { time, what })?;
+    Ok(())
+}
+
 impl<'a> Progress<'a> {
-    /// How far it has come behind an item of what was typed.
-    fn with_typed(self, typed: Rest<'a>) -> Step<'a>
-        ensures step { shown_step result
-            ≡ behind_typed (shown_progress self.entry) (shown_stream typed.entry) }
-        ensures small { IsSizedItem result.item }
+    /// Nothing of a timing has come yet: the moment is told in milliseconds.
+    pub fn at_front(pos: u64, typed: Rest<'a>, shown: Rest<'a>) -> Progress<'a>
+        ensures { shown_progress result ≡ record { moment = later 0 pos; typed = shown_stream typed.entry; shown = shown_stream shown.entry } }
     {
-        Step {
-            item: Item::Input,
-            behind: Progress { typed, ..self },
+        Progress {
+            moment: later(0, pos),
+            typed,
+            shown,
         }
     }
 
-    /// How far it has come behind an output.
-    fn with_shown(self, output: &'a [u8], shown: Rest<'a>) -> Step<'a>
-        ensures step { shown_step result
-            ≡ behind_shown (shown_progress self.entry) output.now (shown_stream shown.entry) }
-        ensures small { IsSizedItem result.item }
-    {
-        Step {
-            item: Item::Output(output),
-            behind: Progress { shown, ..self },
-        }
-    }
-
-    /// What an item tells, and how far the timing has come behind it; none where there is less than it takes.
-    fn step_by(self, word: Word) -> Option<Step<'a>>
+    /// What an item tells, if anything, behind which the timing has then come; none where there is less than it takes.
+    fn step_by(&mut self, alloc: Global, word: Word) -> Result<Option<Option<What>>, AllocError>
         requires { IsSizedWord word }
-        ensures step { option_map shown_step result ≡ step_by (shown_progress self.entry) word }
-        ensures small { IfSome result (λ s. IsSizedItem s.item) }
+        ensures step { IfOk result (λ step. MatchOption step
+            (step_by (shown_progress self.old) word ≡ None)
+            (λ what. step_by (shown_progress self.old) word ≡ Some (step_behind what self.new))) }
+        ensures small { IfOk result (λ step. IfSome step (λ what. IfSome what IsSized)) }
     {
         match word {
             Word::Pass(ms) => {
-                let moment = later(self.moment, ms);
-                Some(Step {
-                    item: Item::Nothing,
-                    behind: Progress { moment, ..self },
-                })
+                self.moment = later(self.moment, ms);
+                Ok(Some(None))
             }
-            Word::Typed(count) => Some(self.with_typed(self.typed.take_text(count)?.1)),
-            Word::TypedBytes(skipped, count) => {
-                Some(self.with_typed(self.typed.take_bytes(skipped, count)?.1))
-            }
-            Word::Shown(count) => {
-                let (output, shown) = self.shown.take_text(count)?;
-                Some(self.with_shown(output, shown))
-            }
+            Word::Typed(count) => match self.typed.pass_text(count) {
+                Some(()) => Ok(Some(Some(What::Input))),
+                None => Ok(None),
+            },
+            Word::TypedBytes(skipped, count) => match self.typed.pass_bytes(skipped, count) {
+                Some(()) => Ok(Some(Some(What::Input))),
+                None => Ok(None),
+            },
+            Word::Shown(count) => match self.shown.take_text(alloc, count)? {
+                Some(bytes) => Ok(Some(Some(What::Output(bytes)))),
+                None => Ok(None),
+            },
             Word::ShownBytes(skipped, count) => {
-                let (output, shown) = self.shown.take_bytes(skipped, count)?;
-                Some(self.with_shown(output, shown))
+                match self.shown.take_bytes(alloc, skipped, count)? {
+                    Some(bytes) => Ok(Some(Some(What::Output(bytes)))),
+                    None => Ok(None),
+                }
             }
-            Word::Window(size) => Some(Step {
-                item: Item::Resize(size),
-                behind: self,
-            }),
+            Word::Window(size) => Ok(Some(Some(What::Resize(size)))),
         }
     }
 
-    /// What the item behind a sign tells, and what stands behind it.
-    pub fn step_at(self, sign: u8, text: &'a [u8]) -> Option<(Step<'a>, &'a [u8])>
-        ensures step { option_map (λ r. (shown_step r.0, r.1.now)) result
-            ≡ step_at (shown_progress self.entry) sign text.now }
-        ensures small { IfSome result (λ r. IsSizedItem r.0.item) }
+    /// What the item behind a sign tells, if anything, and what stands behind it.
+    fn step_at<'t>(
+        &mut self,
+        alloc: Global,
+        sign: u8,
+        text: &'t [u8],
+    ) -> Result<Option<(Option<What>, &'t [u8])>, AllocError>
+        ensures step { IfOk result (λ step. MatchOption step
+            (step_at (shown_progress self.old) sign text.now ≡ None)
+            (λ r. step_at (shown_progress self.old) sign text.now
+            ≡ Some (step_behind r.0 self.new, r.1.now))) }
+        ensures small { IfOk result (λ step. IfSome step (λ r. IfSome r.0 IsSized)) }
     {
-        let (word, rest) = word_behind(sign, text)?;
-        Some((self.step_by(word)?, rest))
-    }
-}
-
-/// Nothing of a message's timing has come yet.
-pub fn at_front(message: &Message) -> Progress<'_>
-    ensures { shown_progress result ≡ at_front message.now }
-{
-    Progress {
-        moment: later(0, message.pos),
-        typed: rest_of(&message.typed),
-        shown: rest_of(&message.shown),
-    }
-}
-
-/// Whether a message's timing is of items alone, and tells of no more than there is.
-pub fn is_whole(message: &Message) -> bool
-    ensures { result ≡ (story_of message.now).whole }
-{
-    let mut so_far = at_front(message);
-    let mut rest = message.timing.as_slice();
-    for _ in 0..message.timing.len() {
-        let [sign, text @ ..] = rest else {
-            return true;
+        let Some((word, rest)) = word_behind(sign, text) else {
+            return Ok(None);
         };
-        let Some((step, behind)) = so_far.step_at(*sign, text) else {
-            return false;
-        };
-        so_far = step.behind;
-        rest = behind;
+        match self.step_by(alloc, word)? {
+            Some(what) => Ok(Some((what, rest))),
+            None => Ok(None),
+        }
     }
-    rest.is_empty()
+
+    /// Adds what a timing tells, and tells whether it is of items alone, and tells of no more than there is.
+    pub fn read_story(
+        &mut self,
+        alloc: Global,
+        timing: &[u8],
+        events: &mut VecDeque<Event>,
+    ) -> Result<bool, AllocError>
+        requires { All (λ e. IsSized e.what) events.old.items }
+        ensures whole { IfOk result (λ whole. whole
+            ≡ (items (length timing.now) (shown_progress self.old) timing.now).whole) }
+        ensures events { OnOk result (events.new.items ≡ events.old.items
+            ++ (items (length timing.now) (shown_progress self.old) timing.now).events) }
+        ensures sized { OnOk result (All (λ e. IsSized e.what) events.new.items) }
+    {
+        let mut rest = timing;
+        for _ in 0..timing.len() {
+            let [sign, text @ ..] = rest else {
+                return Ok(true);
+            };
+            let Some((what, behind)) = self.step_at(alloc, *sign, text)? else {
+                return Ok(false);
+            };
+            keep(events, self.moment, what)?;
+            rest = behind;
+        }
+        Ok(rest.is_empty())
+    }
 }
