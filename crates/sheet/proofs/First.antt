@@ -1,5 +1,5 @@
 -- The first rows of a sheet.
-use Rattle.std.proofs.Common.{◌≡◌, ℕ, ◌+◌, ◌-◌, ◌<◌, ◌≤◌, ◌++◌, ◌∷◌, Bool, true, List, [], length, sym, ap, ◌∙◌, subst, arith}
+use Rattle.std.proofs.Common.{◌≡◌, ℕ, ◌+◌, ◌-◌, ◌<◌, ◌≤◌, ◌++◌, ◌∷◌, List, [], length, sym, ap, ◌∙◌, subst, arith}
 use Rattle.std.specs.Prelude.{if◌then◌else◌, ◌&&◌, nat_le, replicate}
 use Rattle.std.proofs.lemmas.Bool.Decides.{nat_tests}
 use Rattle.std.proofs.lemmas.List.{length-replicate, get_or-replicate}
@@ -7,6 +7,7 @@ use Rattle.std.proofs.lemmas.List.FromFn.{map-range_with_len_more}
 use Rattle.sheet.specs.Cells.{Cell}
 use Rattle.sheet.specs.Table.{table}
 use Rattle.sheet.specs.Halves.{Whole}
+use Rattle.sheet.specs.Grid.{no_origins}
 use Rattle.sheet.specs.Held.{Held, Sound, grid_of, row_in, rows_of, slot_at}
 use Rattle.sheet.proofs.Tables.{length-table, get_or-table, nth-table_any, nth_is, table_ext, is_table}
 
@@ -18,15 +19,15 @@ pub table_more : {X : Type 0} (n : ℕ) (f : ℕ → X) → table (n + 1) f ≡ 
 unfolding table
 table_more n f = map-range_with_len_more f 1 n (n + 1) (omega arith)
 
-pub all_true : (touched : List Bool) (n : ℕ) → touched ≡ replicate n true → touched ≡ table n (λ _. true)
-all_true touched n copies =
-    copies ∙ is_table true n (replicate n true) (λ _. true) (length-replicate n true) (λ k low high.
-    nth_is true (replicate n true) k low ∙ get_or-replicate n (k - 1) true true (omega arith))
+pub all_unknown : (origins : List ℕ) (n : ℕ) → origins ≡ replicate n 0 → origins ≡ no_origins n
+all_unknown origins n copies =
+    copies ∙ is_table 0 n (replicate n 0) (λ _. 0) (length-replicate n 0) (λ k low high.
+    nth_is 0 (replicate n 0) k low ∙ get_or-replicate n (k - 1) 0 0 (omega arith))
 
-module _ (columns lines : ℕ) (order : List ℕ) (slots : List (List Cell)) (touched : List Bool)
-    (is_order : order ≡ table lines (λ line. line - 1)) (row : ℕ → List Cell) (is_slots : slots ≡ table lines row) (is_touches : touched ≡ table lines (λ _. true)) where
+module _ (columns lines : ℕ) (order : List ℕ) (slots : List (List Cell)) (origins : List ℕ)
+    (is_order : order ≡ table lines (λ line. line - 1)) (row : ℕ → List Cell) (is_slots : slots ≡ table lines row) (is_origins : origins ≡ no_origins lines) where
   abbrev pub first : Held
-  first = record { columns = columns; order = order; slots = slots; touched = touched }
+  first = record { columns = columns; order = order; slots = slots; origins = origins }
 
   len_order : length order ≡ lines
   len_order = ap length is_order ∙ length-table lines _
@@ -45,7 +46,7 @@ module _ (columns lines : ℕ) (order : List ℕ) (slots : List (List Cell)) (to
     lines_low = omega (arith, len_order);
     lines_high = omega (arith, len_order);
     slots = ap length is_slots ∙ length-table lines _ ∙ sym len_order;
-    touched = ap length is_touches ∙ length-table lines _ ∙ sym len_order;
+    origins = ap length is_origins ∙ length-table lines _ ∙ sym len_order;
     once = record {
       named = λ k. (let n = name k in let l = len_order in grind (arith, nat_tests));
       apart = λ j k jlow jhigh klow khigh same. (let a = name j in let b = name k in let l = len_order in grind (arith, nat_tests));
@@ -54,8 +55,8 @@ module _ (columns lines : ℕ) (order : List ℕ) (slots : List (List Cell)) (to
     whole = λ slot below. subst Whole (sym (row_there slot (omega (arith, len_order)))) (wholes (slot + 1));
   }
 
-  pub first_is : grid_of first ≡ record { columns = columns; lines = lines; rows = table lines row; touched = table lines (λ _. true) }
-  first_is = λ i. record { columns = columns; lines = len_order i; rows = rows_are i; touched = is_touches i }
+  pub first_is : grid_of first ≡ record { columns = columns; lines = lines; rows = table lines row; origins = no_origins lines }
+  first_is = λ i. record { columns = columns; lines = len_order i; rows = rows_are i; origins = is_origins i }
     where
       rows_are : rows_of first ≡ table lines row
       rows_are =

@@ -1,5 +1,5 @@
 -- Rows behind an order: what a write to one slot does to the rows by line.
-use Rattle.std.proofs.Common.{◌≡◌, ◌≢◌, ℕ, ◌+◌, ◌-◌, ◌<◌, ◌≤◌, Bool, true, false, List, [], length, get_or, set, sym, ap, ap₂, inl, inr, ◌∙◌, subst, arith}
+use Rattle.std.proofs.Common.{◌≡◌, ◌≢◌, ℕ, ◌+◌, ◌-◌, ◌<◌, ◌≤◌, List, [], length, get_or, set, sym, ap, ap₂, inl, inr, ◌∙◌, subst, arith}
 use Rattle.std.specs.Prelude.{if◌then◌else◌, ◌==◌}
 use Rattle.std.proofs.lemmas.Bool.{cases_eq, cases_lt}
 use Rattle.std.proofs.lemmas.Bool.Decides.{nat_tests}
@@ -9,7 +9,7 @@ use Rattle.sheet.specs.declared.rendition.Rendition.{Rendition}
 use Rattle.sheet.specs.Table.{table}
 use Rattle.sheet.specs.Edits.{run_put}
 use Rattle.sheet.specs.Halves.{Whole}
-use Rattle.sheet.specs.Grid.{Grid, Told, is_touched, row_at, with_row}
+use Rattle.sheet.specs.Grid.{Grid, Told, origin_of, row_at, with_row}
 use Rattle.sheet.specs.Held.{Held, Sound, slot_at, row_in, rows_of, grid_of}
 use Rattle.sheet.proofs.Wholes.{whole_run, length_run}
 use Rattle.sheet.proofs.Tables.{length-table, nth-table, nth_is, nth_none, nth_past, table_ext, get_or-set, nth-set}
@@ -18,16 +18,16 @@ use Rattle.sheet.proofs.Tables.{length-table, nth-table, nth_is, nth_none, nth_p
 pub row_there : (h : Held) (line : ℕ) → 1 ≤ line → line ≤ length h.order → row_at (rows_of h) line ≡ row_in h.slots (slot_at h.order line)
 row_there h line low high = nth-table [] (length h.order) (λ k. row_in h.slots (slot_at h.order k)) line low high
 
--- lines that aren't touched_from are lines of the sheet
-pub touched_beyond : (touched : List Bool) (line : ℕ) → is_touched touched line ≡ false → 1 ≤ line
-touched_beyond touched line untouched = elim (cases_lt 0 line) [
+-- a line whose origin is known is one of the sheet
+pub known_low : (origins : List ℕ) (line : ℕ) → 1 ≤ origin_of origins line → 1 ≤ line
+known_low origins line known = elim (cases_lt 0 line) [
   | inl low ↦ low
-  | inr zero ↦ (let e : line ≡ 0 = omega arith in let f = ap (is_touched touched) e in let n = nth_none true touched in absurd (grind arith))
+  | inr zero ↦ (let e : line ≡ 0 = omega arith in let f = ap (origin_of origins) e in let n = nth_none 0 origins in absurd (omega (arith, f, n)))
 ]
 
-pub touched_within : (touched : List Bool) (line : ℕ) → is_touched touched line ≡ false → line ≤ length touched
-touched_within touched line untouched = elim (cases_lt (length touched) line) [
-  | inl past ↦ (let n = nth_past true touched line past in absurd (grind arith))
+pub known_high : (origins : List ℕ) (line : ℕ) → 1 ≤ origin_of origins line → line ≤ length origins
+known_high origins line known = elim (cases_lt (length origins) line) [
+  | inl past ↦ absurd (omega (arith, nth_past 0 origins line past))
   | inr high ↦ high
 ]
 
@@ -61,7 +61,7 @@ module _ (held : Held) (old : Grid) (sound : Sound held) (seen : grid_of held �
 
     module _ (new : List Cell) where
       abbrev pub replaced : Held
-      replaced = record { columns = held.columns; order = held.order; slots = set held.slots slot new; touched = set held.touched (line - 1) true }
+      replaced = record { columns = held.columns; order = held.order; slots = set held.slots slot new; origins = set held.origins (line - 1) 0 }
 
       -- what lies in the slot of line k then
       one_row_at : (k : ℕ) → 1 ≤ k → k ≤ length held.order → row_in replaced.slots (slot_at held.order k) ≡ (if k == line then new else row_at (rows_of held) k)
@@ -93,7 +93,7 @@ module _ (held : Held) (old : Grid) (sound : Sound held) (seen : grid_of held �
         lines_low = sound.lines_low;
         lines_high = sound.lines_high;
         slots = length-set held.slots slot new ∙ sound.slots;
-        touched = length-set held.touched (line - 1) true ∙ sound.touched;
+        origins = length-set held.origins (line - 1) 0 ∙ sound.origins;
         once = sound.once;
         cells = λ at below. lies (λ r. length r ≡ held.columns) at len (sound.cells at below);
         whole = λ at below. lies Whole at whole (sound.whole at below);
@@ -106,19 +106,20 @@ module _ (held : Held) (old : Grid) (sound : Sound held) (seen : grid_of held �
                 | inr other ↦ subst P (sym (get_or-set_other held.slots slot at new [] other)) there
               ]
 
-      -- a line that isn't touched_from then wasn't touched_from before, and isn't this one
+      -- a line whose origin is known then isn't this one
       pub told_changed : (before : List (List Cell)) → Told before old → Told before (grid_of replaced)
-      told_changed before told k untouched =
-          let klow : 1 ≤ k = touched_beyond replaced.touched k untouched in
-          let khigh : k ≤ length held.order = omega (arith, touched_within replaced.touched k untouched, length-set held.touched (line - 1) true, sound.touched) in
-          let written : is_touched replaced.touched k ≡ (if k == line - 1 + 1 then true else is_touched held.touched k) = nth-set true held.touched (line - 1) true k (omega (arith, inside, sound.touched)) klow in
-          let other : k ≢ line = λ e. cc' k untouched written e in
-          let was : is_touched held.touched k ≡ false = grind (arith, nat_tests) in
+      told_changed before told k known =
+          let klow : 1 ≤ k = known_low replaced.origins k known in
+          let khigh : k ≤ length held.order = omega (arith, known_high replaced.origins k known, length-set held.origins (line - 1) 0, sound.origins) in
+          let written : origin_of replaced.origins k ≡ (if k == line - 1 + 1 then 0 else origin_of held.origins k) = nth-set 0 held.origins (line - 1) 0 k (omega (arith, inside, sound.origins)) klow in
+          let other : k ≢ line = λ e. this k known written e in
+          let was : origin_of replaced.origins k ≡ origin_of held.origins k = grind (arith, nat_tests) in
+          let seen_was : origin_of held.origins k ≡ origin_of old.origins k = ap (λ (g : Grid). origin_of g.origins k) seen in
           let same : row_at (rows_of replaced) k ≡ row_at (rows_of held) k = row_there replaced k klow khigh ∙ one_row_at k klow khigh ∙ unmoved k other in
-          same ∙ ap (λ (g : Grid). row_at g.rows k) seen ∙ told k (sym (ap (λ (g : Grid). is_touched g.touched k) seen) ∙ was)
+          same ∙ ap (λ (g : Grid). row_at g.rows k) seen ∙ told k (omega (arith, was, seen_was)) ∙ ap (row_at before) (sym (was ∙ seen_was))
         where
-          cc' : (k : ℕ) → is_touched replaced.touched k ≡ false → is_touched replaced.touched k ≡ (if k == line - 1 + 1 then true else is_touched held.touched k) → k ≡ line → ⊥
-          cc' k untouched written e = grind (arith, nat_tests)
+          this : (k : ℕ) → 1 ≤ origin_of replaced.origins k → origin_of replaced.origins k ≡ (if k == line - 1 + 1 then 0 else origin_of held.origins k) → k ≡ line → ⊥
+          this k known written e = grind (arith, nat_tests)
 
           unmoved : (k : ℕ) → k ≢ line → (if k == line then new else row_at (rows_of held) k) ≡ row_at (rows_of held) k
           unmoved k other = grind (arith, nat_tests)

@@ -5,6 +5,7 @@ mod Shifts
 mod Marks
 mod Runs
 mod Index
+pub mod Came
 mod Turns
 mod Wholes
 mod First

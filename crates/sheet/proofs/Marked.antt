@@ -9,7 +9,10 @@ use Rattle.std.specs.List.{prefix_len}
 use lib.Lanes.{mask_l, top, zip2}
 use mir.Val.{bool_byte}
 use lib.Count.{count_trailing_zeros}
-use Rattle.sheet.specs.Marked.{IsNext}
+use Rattle.std.specs.Prelude.{◌==◌}
+use Rattle.sheet.specs.Grid.{is_touched, origin_of}
+use Rattle.sheet.specs.Marked.{IsNext, marks_from, marks_of}
+use Rattle.sheet.proofs.Tables.{get_or-table, length-table, nth_next}
 use Rattle.sheet.specs.Numbers.{bit}
 
 -- ---- a piece of them
@@ -209,3 +212,69 @@ some_within marks short some =
       | inl whole ↦ absurd (omega (arith, none_marked marks whole))
       | inr part ↦ omega (arith, is, prefix_len-le-length p marks)
     ]
+
+-- ---- lines
+
+-- a line's mark, by what is read of it
+pub mark_read : (origins : List ℕ) (k : ℕ) → k < length origins → get_or (marks_of origins) k true ≡ not (get_or origins k 0 == k + 1)
+mark_read origins k below =
+    get_or-table (length origins) (is_touched origins) k true below ∙ ap (λ (origin : ℕ). not (origin == k + 1)) (nth_next 0 origins k)
+
+-- as many as lines
+pub length_marks : (origins : List ℕ) → length (marks_of origins) ≡ length origins
+length_marks origins = length-table (length origins) (is_touched origins)
+
+-- the marks of a piece of the lines are a piece of the marks
+pub marks_in : (origins : List ℕ) (at count : ℕ) → at + count ≤ length origins → marks_from (at + 1) (take count (drop at origins)) ≡ take count (drop at (marks_of origins))
+marks_in origins at count room =
+    let piece = take count (drop at origins) in
+    let long : length piece ≡ count = simp (length-take, length-drop) (omega arith) in
+    let length_all = length_marks origins in
+    let step : ℕ → Bool = λ k. not (origin_of piece k == at + 1 + k - 1) in
+    same_lists (marks_from (at + 1) piece) (take count (drop at (marks_of origins)))
+    (length-table (length piece) step ∙ long ∙ sym (length_piece (marks_of origins) at count (omega (arith, length_all)))) (λ k d below.
+    let within : k < count = omega (arith, length-table (length piece) step, long) in
+    let there : get_or piece k 0 ≡ get_or origins (at + k) 0 = get_or-take count (drop at origins) k 0 within ∙ get_or-drop at origins k 0 in
+    let same : at + 1 + (k + 1) - 1 ≡ at + k + 1 = omega arith in
+    get_or-table (length piece) step k d (omega (arith, long))
+    ∙ ap (λ (origin : ℕ). not (origin == at + 1 + (k + 1) - 1)) (nth_next 0 piece k ∙ there)
+    ∙ ap (λ (line : ℕ). not (get_or origins (at + k) 0 == line)) same
+    ∙ sym (mark_read origins (at + k) (omega arith))
+    ∙ get_or_default (marks_of origins) (at + k) true d (omega (arith, length_all))
+    ∙ sym (get_or-take count (drop at (marks_of origins)) k d within ∙ get_or-drop at (marks_of origins) k d))
+
+-- marks that are those of some lines, one by one
+pub marks_are : (first : ℕ) (origins : List ℕ) (marks : List Bool) → length marks ≡ length origins
+    → ((k : ℕ) → k < length origins → get_or marks k true ≡ not (get_or origins k 0 == first + k)) → marks ≡ marks_from first origins
+marks_are first origins marks long each =
+    let step : ℕ → Bool = λ k. not (origin_of origins k == first + k - 1) in
+    same_lists marks (marks_from first origins) (long ∙ sym (length-table (length origins) step)) (λ k d below.
+    let within : k < length origins = omega (arith, long) in
+    get_or_default marks k d true below ∙ each k within
+    ∙ ap (λ (line : ℕ). not (get_or origins k 0 == line)) (omega arith)
+    ∙ ap (λ (origin : ℕ). not (origin == first + (k + 1) - 1)) (sym (nth_next 0 origins k))
+    ∙ sym (get_or-table (length origins) step k d within))
+
+-- the bits of a piece
+pub bits_in : (origins : List ℕ) (at count bits : ℕ) (marks : List Bool) → at + count ≤ length origins → bits ≡ mask_l marks
+    → marks ≡ marks_from (at + 1) (take count (drop at origins)) → bits ≡ mask_l (take count (drop at (marks_of origins)))
+bits_in origins at count bits marks room are is = are ∙ ap mask_l (is ∙ marks_in origins at count room)
+
+-- the first line that was touched, looked for one by one
+pub next_here : (origins : List ℕ) (from at : ℕ) → from ≤ at → at < length origins
+    → ((k : ℕ) → from ≤ k → k < at → get_or (marks_of origins) k true ≡ false) → not (get_or origins at 0 == at + 1) ≡ true → IsNext (marks_of origins) from at
+next_here origins from at low below passed here = record {
+  low = low;
+  high = omega (arith, length_marks origins);
+  between = passed;
+  found = λ _. mark_read origins at below ∙ here;
+}
+
+pub next_nowhere : (origins : List ℕ) (from : ℕ) → from ≤ length origins
+    → ((k : ℕ) → from ≤ k → k < length origins → get_or (marks_of origins) k true ≡ false) → IsNext (marks_of origins) from (length origins)
+next_nowhere origins from low passed = record {
+  low = low;
+  high = omega (arith, length_marks origins);
+  between = passed;
+  found = λ below. absurd (omega (arith, below, length_marks origins));
+}

@@ -9,7 +9,7 @@ use Rattle.sheet.specs.Table.{table}
 use Rattle.sheet.specs.Cells.{Cell, blank, cell_at}
 use Rattle.sheet.specs.Edits.{filled}
 use Rattle.sheet.specs.Halves.{Whole}
-use Rattle.sheet.specs.Grid.{Grid, IsUsed, all_touched, blank_row, row_at, row_of}
+use Rattle.sheet.specs.Grid.{Grid, IsUsed, all_touched, blank_row, no_origins, row_at, row_of}
 use Rattle.sheet.specs.Held.{Held, Sound, grid_of, row_in}
 use Rattle.sheet.specs.Packed.{IsPacked, packed_grid, unpacked}
 use Rattle.sheet.proofs.Tables.{is_table, length-table, nth-table, nth_is, nth_past, table_ext, table_is}
@@ -88,7 +88,7 @@ kept_more columns rows kept n row part is_row len whole unpacks short k = record
 -- They are the sheet.
 module _ (columns : ℕ) (g : Grid) (kept : List (List Cell)) (same : columns ≡ g.columns) (count : length g.rows ≡ g.lines) (k : AreKept columns g.rows kept g.lines) where
   pub packed_is : packed_grid columns kept ≡ all_touched g
-  packed_is = λ i. record { columns = same i; lines = k.count i; rows = rows_are i; touched = table (k.count i) (λ _. true) }
+  packed_is = λ i. record { columns = same i; lines = k.count i; rows = rows_are i; origins = no_origins (k.count i) }
     where
       rows_are : table (length kept) (λ line. unpacked columns (row_in kept (line - 1))) ≡ g.rows
       rows_are =
@@ -121,7 +121,7 @@ module _ (held : Held) (old : Grid) (sound : Sound held) (seen : grid_of held �
     (order : List ℕ) (is_order : order ≡ table (length held.order) (λ line. line - 1))
     (slots : List (List Cell)) (len : length slots ≡ length held.slots)
     (each : (slot : ℕ) → slot < length held.slots → row_in slots slot ≡ unpacked (length (row_in held.slots slot)) (row_in kept slot))
-    (touched : List Bool) (is_touches : touched ≡ table (length held.touched) (λ _. true)) where
+    (origins : List ℕ) (is_origins : origins ≡ no_origins (length held.origins)) where
   lines : length kept ≡ length held.order
   lines = ap (λ (g : Grid). g.lines) read ∙ count ∙ ap (λ (g : Grid). g.lines) (sym seen)
 
@@ -133,22 +133,22 @@ module _ (held : Held) (old : Grid) (sound : Sound held) (seen : grid_of held �
       let below : k - 1 < length held.order = omega arith in
       nth_is [] slots k low ∙ each (k - 1) (omega (arith, sound.slots)) ∙ ap (λ (m : ℕ). unpacked m (row_in kept (k - 1))) (sound.cells (k - 1) below))
 
-  all : touched ≡ table (length held.order) (λ _. true)
-  all = is_touches ∙ ap (λ (n : ℕ). table n (λ _. true)) sound.touched
+  all : origins ≡ no_origins (length held.order)
+  all = is_origins ∙ ap no_origins sound.origins
 
-  pub unpacked_sound : Sound (record { columns = held.columns; order = order; slots = slots; touched = touched })
+  pub unpacked_sound : Sound (record { columns = held.columns; order = order; slots = slots; origins = origins })
   unpacked_sound =
-      first_sound held.columns (length held.order) order slots touched is_order (λ line. unpacked held.columns (row_in kept (line - 1))) is_slots all
+      first_sound held.columns (length held.order) order slots origins is_order (λ line. unpacked held.columns (row_in kept (line - 1))) is_slots all
       sound.columns_low sound.columns_high sound.lines_low sound.lines_high
       (λ line. length-table held.columns _) (λ line. subst (λ (n : ℕ). Whole (unpacked n (row_in kept (line - 1)))) width (is.whole (line - 1)))
 
-  pub unpacked_is : grid_of (record { columns = held.columns; order = order; slots = slots; touched = touched }) ≡ packed
+  pub unpacked_is : grid_of (record { columns = held.columns; order = order; slots = slots; origins = origins }) ≡ packed
   unpacked_is =
-      first_is held.columns (length held.order) order slots touched is_order (λ line. unpacked held.columns (row_in kept (line - 1))) is_slots all
+      first_is held.columns (length held.order) order slots origins is_order (λ line. unpacked held.columns (row_in kept (line - 1))) is_slots all
       ∙ sym again ∙ read
     where
-      again : packed_grid columns kept ≡ record { columns = held.columns; lines = length held.order; rows = table (length held.order) (λ line. unpacked held.columns (row_in kept (line - 1))); touched = table (length held.order) (λ _. true) }
-      again = ap₂ (λ (m n : ℕ). let g : Grid = record { columns = m; lines = n; rows = table n (λ line. unpacked m (row_in kept (line - 1))); touched = table n (λ _. true) } in g) width lines
+      again : packed_grid columns kept ≡ record { columns = held.columns; lines = length held.order; rows = table (length held.order) (λ line. unpacked held.columns (row_in kept (line - 1))); origins = no_origins (length held.order) }
+      again = ap₂ (λ (m n : ℕ). let g : Grid = record { columns = m; lines = n; rows = table n (λ line. unpacked m (row_in kept (line - 1))); origins = no_origins n } in g) width lines
 
 -- ---- cells that needn't be blanked anew
 

@@ -1,5 +1,5 @@
--- Names of slots that turn, rows that become blank, and touched.
-use Rattle.std.proofs.Common.{◌≡◌, ◌≢◌, ℕ, ◌+◌, ◌-◌, ◌<◌, ◌≤◌, ◌⊎◌, Bool, true, false, List, [], length, min, get_or, set, refl, sym, ap, ap₂, inl, inr, ◌∙◌, subst, arith, rules}
+-- Names of slots that turn, rows that become blank, and where rows came from.
+use Rattle.std.proofs.Common.{◌≡◌, ◌≢◌, ℕ, ◌+◌, ◌-◌, ◌<◌, ◌≤◌, ◌⊎◌, Bool, false, List, [], length, min, get_or, set, refl, sym, ap, ap₂, inl, inr, ◌∙◌, subst, arith, rules}
 use Rattle.std.specs.Prelude.{if◌then◌else◌, ◌&&◌, nat_le, nat_lt}
 use Rattle.std.specs.List.{RotatedLeft}
 use Rattle.std.proofs.lemmas.Bool.{cases_eq, cases_lt}
@@ -11,11 +11,11 @@ use Rattle.sheet.specs.declared.rendition.Colour.TheVariants.{Default}
 use Rattle.sheet.specs.Table.{table}
 use Rattle.sheet.specs.Cells.{blank, is_covered, is_wide}
 use Rattle.sheet.specs.Halves.{Whole}
-use Rattle.sheet.specs.Grid.{Grid, Told, is_touched, lines_filled, row_at, row_of, touched_from}
+use Rattle.sheet.specs.Grid.{Grid, Told, lines_filled, no_origins, origin_of, row_at, row_of, unknown_from}
 use Rattle.sheet.specs.Held.{Held, LinesFilled, Once, SlotsStayOrFill, Sound, grid_of, line_below, row_in, rows_of, slot_at, turned_up}
 use Rattle.sheet.proofs.Tables.{length-table, nth-table, nth-table_any, nth_is, table_ext, is_table, get_or-set, nth-set}
 use Rattle.sheet.proofs.Rows.{blank_narrow, blank_open}
-use Rattle.sheet.proofs.Index.{row_there, touched_beyond, touched_within}
+use Rattle.sheet.proofs.Index.{known_high, known_low, row_there}
 
 pub row_of_whole : (columns : ℕ) (cell : Cell) → is_wide cell ≡ false → is_covered cell ≡ false → Whole (row_of columns cell)
 row_of_whole columns cell narrow uncovered k =
@@ -132,32 +132,31 @@ module _ (cell : Cell) (order : List ℕ) (old : List (List Cell)) (once : Once 
       same_length at (inl e) = ap length e
       same_length at (inr e) = ap length e ∙ length-table (length (row_in old at)) _
 
--- Lines that are touched, one after another.
-pub touched_none : (first : ℕ) (touched : List Bool) → touched ≡ touched_from first first touched
-touched_none first touched = is_table true (length touched) _ _ refl (λ k low high. grind (arith, nat_tests))
+-- Lines whose origins are forgotten, one after another.
+pub unknown_none : (first : ℕ) (origins : List ℕ) → origins ≡ unknown_from first first origins
+unknown_none first origins = is_table 0 (length origins) _ _ refl (λ k low high. grind (arith, nat_tests))
 
-pub touched_more : (first line : ℕ) (touched was : List Bool) → 1 ≤ line → line ≤ length touched → first ≤ line → was ≡ touched_from first line touched
-    → set was (line - 1) true ≡ touched_from first (line + 1) touched
-touched_more first line touched was low high from is_was =
-    let f : ℕ → Bool = λ k. if nat_le first k && nat_lt k line then true else is_touched touched k in
-    ap (λ (ms : List Bool). set ms (line - 1) true) is_was
-    ∙ is_table true (length touched) _ _ (length-set (touched_from first line touched) (line - 1) true ∙ length-table (length touched) f) (λ k klow khigh.
-    let len = length-table (length touched) f in
-    let was_there = nth-table true (length touched) f k klow khigh in
-    let written = nth-set true (touched_from first line touched) (line - 1) true k (omega arith) klow in
+pub unknown_more : (first line : ℕ) (origins was : List ℕ) → 1 ≤ line → line ≤ length origins → first ≤ line → was ≡ unknown_from first line origins
+    → set was (line - 1) 0 ≡ unknown_from first (line + 1) origins
+unknown_more first line origins was low high from is_was =
+    let f : ℕ → ℕ = λ k. if nat_le first k && nat_lt k line then 0 else origin_of origins k in
+    ap (λ (os : List ℕ). set os (line - 1) 0) is_was
+    ∙ is_table 0 (length origins) _ _ (length-set (unknown_from first line origins) (line - 1) 0 ∙ length-table (length origins) f) (λ k klow khigh.
+    let len = length-table (length origins) f in
+    let was_there = nth-table 0 (length origins) f k klow khigh in
+    let written = nth-set 0 (unknown_from first line origins) (line - 1) 0 k (omega arith) klow in
     grind (arith, nat_tests))
 
--- A scroll, as the body leaves it: names that turned, lines that are blank, and touched. The rows it leads to are told by line.
+-- A scroll, as the body leaves it: names and origins that turned, and lines that are blank. The rows it leads to are told by line.
 module _ (held : Held) (old : Grid) (sound : Sound held) (seen : grid_of held ≡ old) (turn top bottom first last : ℕ) (cell : Cell) (narrow : is_wide cell ≡ false) (uncovered : is_covered cell ≡ false)
     (low : 1 ≤ top) (apart : top ≤ bottom) (high : bottom ≤ old.lines) (room : top + turn ≤ bottom + 1)
     (order : List ℕ) (is_turned : order ≡ turned_up turn top bottom held.order)
     (slots : List (List Cell)) (blanked : LinesFilled first last cell order held.slots slots) (stay : SlotsStayOrFill cell held.slots slots)
-    (touched : List Bool) (start end : ℕ) (is_touches : touched ≡ touched_from start end held.touched)
+    (origins : List ℕ) (is_origins : origins ≡ unknown_from first last (turned_up turn top bottom held.origins))
     (line_of : List Cell → List (List Cell) → ℕ → List Cell)
-    (each : (empty : List Cell) (rows : List (List Cell)) (k : ℕ) → (if nat_le first k && nat_lt k last then empty else row_at rows (line_below turn top bottom k)) ≡ line_of empty rows k)
-    (outside : (empty : List Cell) (rows : List (List Cell)) (k : ℕ) → (nat_le start k && nat_lt k end) ≡ false → line_of empty rows k ≡ row_at rows k) where
+    (each : (empty : List Cell) (rows : List (List Cell)) (k : ℕ) → (if nat_le first k && nat_lt k last then empty else row_at rows (line_below turn top bottom k)) ≡ line_of empty rows k) where
   abbrev pub after : Held
-  after = record { columns = held.columns; order = order; slots = slots; touched = touched }
+  after = record { columns = held.columns; order = order; slots = slots; origins = origins }
 
   lines : old.lines ≡ length held.order
   lines = ap (λ (g : Grid). g.lines) (sym seen)
@@ -191,6 +190,12 @@ module _ (held : Held) (old : Grid) (sound : Sound held) (seen : grid_of held �
       ∙ sym (ap (λ (m : ℕ). table m (line_of (row_of held.columns cell) (rows_of held))) (length-table (length held.order) _))
       ∙ ap (λ (g : Grid). table (length g.rows) (line_of (row_of g.columns cell) g.rows)) seen
 
+  length_turned : length (turned_up turn top bottom held.origins) ≡ length held.order
+  length_turned = length-table (length held.origins) _ ∙ sound.origins
+
+  length_origins : length origins ≡ length held.order
+  length_origins = ap length is_origins ∙ length-table (length (turned_up turn top bottom held.origins)) _ ∙ length_turned
+
   pub scrolled_sound : length slots ≡ length held.slots → Sound after
   scrolled_sound len = record {
     columns_low = sound.columns_low;
@@ -198,7 +203,7 @@ module _ (held : Held) (old : Grid) (sound : Sound held) (seen : grid_of held �
     lines_low = omega (arith, same_lines, sound.lines_low);
     lines_high = omega (arith, same_lines, sound.lines_high);
     slots = len ∙ sound.slots ∙ sym same_lines;
-    touched = ap length is_touches ∙ length-table (length held.touched) _ ∙ sound.touched ∙ sym same_lines;
+    origins = length_origins ∙ sym same_lines;
     once = subst Once (sym is_turned) (once_turned held.order turn top bottom sound.once low room apart inside);
     cells = λ slot below. cells_in slot (omega (arith, same_lines)) (stay slot);
     whole = λ slot below. whole_in slot (omega (arith, same_lines)) (stay slot);
@@ -213,19 +218,22 @@ module _ (held : Held) (old : Grid) (sound : Sound held) (seen : grid_of held �
       whole_in slot below (inr e) = subst Whole (sym e) (row_of_whole (length (row_in held.slots slot)) cell narrow uncovered)
 
   pub scrolled_told : (before : List (List Cell)) → Told before old → Told before (grid_of after)
-  scrolled_told before told k untouched =
-      let klow : 1 ≤ k = touched_beyond touched k untouched in
-      let len : length touched ≡ length held.touched = ap length is_touches ∙ length-table (length held.touched) _ in
-      let khigh : k ≤ length held.touched = omega (arith, touched_within touched k untouched) in
-      let kin : k ≤ length old.rows = omega (arith, row_count, sound.touched) in
-      let now : (if nat_le start k && nat_lt k end then true else is_touched held.touched k) ≡ false =
-      sym (ap (λ (ms : List Bool). is_touched ms k) is_touches ∙ nth-table true (length held.touched) _ k klow khigh) ∙ untouched in
-      let was : is_touched held.touched k ≡ false = grind (arith, nat_tests) in
-      let out : (nat_le start k && nat_lt k end) ≡ false = grind (arith, nat_tests) in
+  scrolled_told before told k known =
+      let source = line_below turn top bottom k in
+      let empty = row_of old.columns cell in
+      let turned = turned_up turn top bottom held.origins in
+      let klow : 1 ≤ k = known_low origins k known in
+      let kin : k ≤ length held.order = omega (arith, known_high origins k known, length_origins) in
+      let here : origin_of origins k ≡ (if nat_le first k && nat_lt k last then 0 else origin_of turned k) =
+      ap (λ (os : List ℕ). origin_of os k) is_origins ∙ nth-table 0 (length turned) _ k klow (omega (arith, length_turned)) in
+      let there : origin_of turned k ≡ origin_of held.origins source = nth-table 0 (length held.origins) (λ line. slot_at held.origins (line_below turn top bottom line)) k klow (omega (arith, sound.origins)) in
+      let out : (nat_le first k && nat_lt k last) ≡ false = grind (arith, nat_tests) in
+      let came : origin_of origins k ≡ origin_of old.origins source = here ∙ ap (λ (b : Bool). if b then 0 else origin_of turned k) out ∙ there ∙ ap (λ (g : Grid). origin_of g.origins source) seen in
       ap (λ (rows : List (List Cell)). row_at rows k) scrolled_rows
-      ∙ nth-table [] (length old.rows) (line_of (row_of old.columns cell) old.rows) k klow kin
-      ∙ outside (row_of old.columns cell) old.rows k out
-      ∙ told k (sym (ap (λ (g : Grid). is_touched g.touched k) seen) ∙ was)
+      ∙ nth-table [] (length old.rows) (line_of empty old.rows) k klow (omega (arith, row_count))
+      ∙ sym (each empty old.rows k)
+      ∙ ap (λ (b : Bool). if b then empty else row_at old.rows source) out
+      ∙ told source (omega (arith, came)) ∙ ap (row_at before) (sym came)
 
 -- what the lines become, up and down by a count: n, or all of the lines
 module _ (n count top bottom : ℕ) (low : 1 ≤ top) (apart : top ≤ bottom) (few : count ≡ min n (bottom + 1 - top)) where
@@ -240,12 +248,6 @@ module _ (n count top bottom : ℕ) (low : 1 ≤ top) (apart : top ≤ bottom) (
 
   pub each_down : (empty : List Cell) (rows : List (List Cell)) (k : ℕ) → (if nat_le top k && nat_lt k (top + count) then empty else row_at rows (line_below (bottom + 1 - top - count) top bottom k)) ≡ line_down empty rows k
   each_down empty rows k = grind (arith, nat_tests)
-
-  pub outside_up : (empty : List Cell) (rows : List (List Cell)) (k : ℕ) → (nat_le top k && nat_lt k (bottom + 1)) ≡ false → line_up empty rows k ≡ row_at rows k
-  outside_up empty rows k out = grind (arith, nat_tests)
-
-  pub outside_down : (empty : List Cell) (rows : List (List Cell)) (k : ℕ) → (nat_le top k && nat_lt k (bottom + 1)) ≡ false → line_down empty rows k ≡ row_at rows k
-  outside_down empty rows k out = grind (arith, nat_tests)
 
 -- as many lines as are seen
 pub lines_of : (held : Held) (old : Grid) → grid_of held ≡ old → old.lines ≡ length held.order
@@ -270,29 +272,29 @@ module _ (from to : ℕ) where
   pub each_filled : (lines : ℕ) (row : List Cell) (rows : List (List Cell)) (k : ℕ) → (if nat_le from k && nat_lt k (to + 1) then row else row_at rows (line_below 0 1 lines k)) ≡ line_filled row rows k
   each_filled lines row rows k = grind (arith, nat_tests)
 
-  pub outside_filled : (row : List Cell) (rows : List (List Cell)) (k : ℕ) → (nat_le from k && nat_lt k (to + 1)) ≡ false → line_filled row rows k ≡ row_at rows k
-  outside_filled row rows k out = grind (arith, nat_tests)
-
   module _ (held : Held) (old : Grid) (sound : Sound held) (seen : grid_of held ≡ old) (cell : Cell) (narrow : is_wide cell ≡ false) (uncovered : is_covered cell ≡ false)
       (slots : List (List Cell)) (filled : LinesFilled from (to + 1) cell held.order held.slots slots) (stay : SlotsStayOrFill cell held.slots slots)
-      (touched : List Bool) (is_touches : touched ≡ touched_from from (to + 1) held.touched) where
+      (origins : List ℕ) (is_origins : origins ≡ unknown_from from (to + 1) held.origins) where
     one : 1 ≤ old.lines
     one = omega (arith, lines_of held old seen, sound.lines_low)
 
-    pub filled_rows : rows_of (record { columns = held.columns; order = held.order; slots = slots; touched = touched }) ≡ lines_filled from to (row_of old.columns cell) old.rows
+    forgot : origins ≡ unknown_from from (to + 1) (turned_up 0 1 old.lines held.origins)
+    forgot = is_origins ∙ ap (unknown_from from (to + 1)) (turned_none old.lines held.origins)
+
+    pub filled_rows : rows_of (record { columns = held.columns; order = held.order; slots = slots; origins = origins }) ≡ lines_filled from to (row_of old.columns cell) old.rows
     filled_rows =
         scrolled_rows held old sound seen 0 1 old.lines from (to + 1) cell narrow uncovered (omega arith) one (omega arith) (omega (arith, one)) held.order (turned_none old.lines held.order)
-        slots filled stay touched from (to + 1) is_touches line_filled (each_filled old.lines) outside_filled
+        slots filled stay origins forgot line_filled (each_filled old.lines)
 
-    pub filled_sound : length slots ≡ length held.slots → Sound (record { columns = held.columns; order = held.order; slots = slots; touched = touched })
+    pub filled_sound : length slots ≡ length held.slots → Sound (record { columns = held.columns; order = held.order; slots = slots; origins = origins })
     filled_sound =
         scrolled_sound held old sound seen 0 1 old.lines from (to + 1) cell narrow uncovered (omega arith) one (omega arith) (omega (arith, one)) held.order (turned_none old.lines held.order)
-        slots filled stay touched from (to + 1) is_touches line_filled (each_filled old.lines) outside_filled
+        slots filled stay origins forgot line_filled (each_filled old.lines)
 
-    pub filled_told : (before : List (List Cell)) → Told before old → Told before (grid_of (record { columns = held.columns; order = held.order; slots = slots; touched = touched }))
+    pub filled_told : (before : List (List Cell)) → Told before old → Told before (grid_of (record { columns = held.columns; order = held.order; slots = slots; origins = origins }))
     filled_told =
         scrolled_told held old sound seen 0 1 old.lines from (to + 1) cell narrow uncovered (omega arith) one (omega arith) (omega (arith, one)) held.order (turned_none old.lines held.order)
-        slots filled stay touched from (to + 1) is_touches line_filled (each_filled old.lines) outside_filled
+        slots filled stay origins forgot line_filled (each_filled old.lines)
 
 -- all lines are filled
 pub lines_all : (lines : ℕ) (row : List Cell) (rows : List (List Cell)) → length rows ≡ lines → lines_filled 1 lines row rows ≡ table lines (λ _. row)
@@ -300,6 +302,6 @@ lines_all lines row rows count =
     ap (λ (n : ℕ). table n (line_filled 1 lines row rows)) count
     ∙ table_ext lines _ _ (λ k low high. grind (arith, nat_tests))
 
--- all lines are touched
-pub touched_all : (lines : ℕ) (touched : List Bool) → length touched ≡ lines → touched_from 1 (lines + 1) touched ≡ table (length touched) (λ _. true)
-touched_all lines touched count = table_ext (length touched) _ _ (λ k low high. grind (arith, nat_tests))
+-- no line's origin is known
+pub unknown_all : (lines : ℕ) (origins : List ℕ) → length origins ≡ lines → unknown_from 1 (lines + 1) origins ≡ no_origins (length origins)
+unknown_all lines origins count = table_ext (length origins) _ _ (λ k low high. grind (arith, nat_tests))

@@ -1,16 +1,17 @@
--- A sheet as its users see it: rows of cells, and which of them were touched.
-use Rattle.std.specs.Prelude.{◌≡◌, ℕ, ◌+◌, ◌-◌, ◌<◌, ◌≤◌, Bool, true, false, List, [], length, nat_le, nat_lt, ◌&&◌, ◌==◌, if◌then◌else◌}
+-- A sheet as its users see it: rows of cells, and where each of them came from.
+use Rattle.std.specs.Prelude.{◌≡◌, ℕ, ◌+◌, ◌-◌, ◌<◌, ◌≤◌, Bool, false, not, List, [], length, nat_le, nat_lt, ◌&&◌, ◌==◌, if◌then◌else◌}
 use Rattle.sheet.specs.declared.rendition.Colour.{Colour}
 use Rattle.sheet.specs.declared.rendition.Colour.TheVariants.{Default}
 use Rattle.sheet.specs.Table.{table, nth}
 use Rattle.sheet.specs.Cells.{Cell, alignment, blank, cell_at}
 
--- the size, the rows from line 1 on, and for each line whether it was touched since that was last cleared (ours)
+-- the size, the rows from line 1 on, and for each line the one whose row it has, as rows stood when the marks were
+-- last cleared; 0 where that isn't known (ours)
 pub record Grid : Type 0 where
   pub columns : ℕ
   pub lines : ℕ
   pub rows : List (List Cell)
-  pub touched : List Bool
+  pub origins : List ℕ
 
 -- a row of this cell alone (ours)
 abbrev pub row_of : ℕ → Cell → List Cell
@@ -50,18 +51,41 @@ blank_rows columns lines paper = table lines (λ _. blank_row columns paper)
 abbrev pub aligned : ℕ → ℕ → List (List Cell)
 aligned columns lines = table lines (λ _. row_of columns alignment)
 
--- a line was touched; lines outside the sheet count as touched (ours)
-abbrev pub is_touched : List Bool → ℕ → Bool
-is_touched touched line = nth true touched line
+-- the line of before whose row a line has, from 1, or 0 where that isn't known, as outside the sheet (ours)
+abbrev pub origin_of : List ℕ → ℕ → ℕ
+origin_of origins line = nth 0 origins line
 
--- the lines from one to before another are touched (ours)
-abbrev pub touched_from : ℕ → ℕ → List Bool → List Bool
-touched_from first last touched = table (length touched) (λ line.
-    if nat_le first line && nat_lt line last then true else is_touched touched line)
+-- a line was touched: it isn't known to have its own row of before (ours)
+abbrev pub is_touched : List ℕ → ℕ → Bool
+is_touched origins line = not (origin_of origins line == line)
 
--- each line that wasn't touched has the row of before (ours)
+-- of the lines from one to before another it isn't known where they came from (ours)
+abbrev pub unknown_from : ℕ → ℕ → List ℕ → List ℕ
+unknown_from first last origins = table (length origins) (λ line.
+    if nat_le first line && nat_lt line last then 0 else origin_of origins line)
+
+-- each line has its own row (ours)
+abbrev pub own_origins : ℕ → List ℕ
+own_origins lines = table lines (λ line. line)
+
+-- it isn't known of any line where its row came from (ours)
+abbrev pub no_origins : ℕ → List ℕ
+no_origins lines = table lines (λ _. 0)
+
+-- each line whose origin is known has the row that this one had before (ours)
+abbrev pub AreTold : List (List Cell) → List ℕ → List (List Cell) → Type 0
+AreTold before origins rows = (line : ℕ) → 1 ≤ origin_of origins line
+    → row_at rows line ≡ row_at before (origin_of origins line)
+
+-- each line that wasn't touched has its own row of before, and where any row is another one, each line whose origin is
+-- known has the row that this one had (ours)
+pub record AreMarked (before : List (List Cell)) (origins : List ℕ) (rows : List (List Cell)) : Type 0 where
+  pub stay : (line : ℕ) → is_touched origins line ≡ false → row_at rows line ≡ row_at before line
+  pub move : (rows ≡ before → ⊥) → AreTold before origins rows
+
+-- so it is on a sheet (ours)
 abbrev pub Told : List (List Cell) → Grid → Type 0
-Told before g = (line : ℕ) → is_touched g.touched line ≡ false → row_at g.rows line ≡ row_at before line
+Told before g = AreTold before g.origins g.rows
 
 -- lines from the top to the bottom become the one n below, and an empty one where there is none
 -- (ECMA-48 8.3.147, SU; 8.3.32, DL)
@@ -78,15 +102,15 @@ scrolled_down n top bottom empty rows = table (length rows) (λ line.
     then (if nat_le (top + n) line then row_at rows (line - n) else empty)
     else row_at rows line)
 
--- blank, and all of it touched (ours)
+-- blank, and no origin is known (ours)
 abbrev pub first_grid : ℕ → ℕ → Grid
 first_grid columns lines = record {
   columns = columns;
   lines = lines;
   rows = blank_rows columns lines Default;
-  touched = table lines (λ _. true);
+  origins = no_origins lines;
 }
 
--- the same rows, all of them touched (ours)
+-- the same rows, of which no origin is known (ours)
 abbrev pub all_touched : Grid → Grid
-all_touched g = record g { touched = table g.lines (λ _. true) }
+all_touched g = record g { origins = no_origins g.lines }

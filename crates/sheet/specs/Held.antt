@@ -1,5 +1,5 @@
 -- Private: where rows lie. Rows are in slots, and each line names its slot, from 0.
-use Rattle.std.specs.Prelude.{◌≡◌, ℕ, ◌+◌, ◌-◌, ◌<◌, ◌≤◌, ◌⊎◌, Bool, List, [], length, slice_index_or, nat_le, nat_lt, ◌&&◌, if◌then◌else◌}
+use Rattle.std.specs.Prelude.{◌≡◌, ℕ, ◌+◌, ◌-◌, ◌<◌, ◌≤◌, ◌⊎◌, List, [], length, slice_index_or, nat_le, nat_lt, ◌&&◌, if◌then◌else◌}
 use Rattle.sheet.specs.Cells.{Cell}
 use Rattle.sheet.specs.Table.{table, nth}
 use Rattle.sheet.specs.Halves.{Whole}
@@ -10,7 +10,7 @@ pub record Held : Type 0 where
   pub columns : ℕ
   pub order : List ℕ
   pub slots : List (List Cell)
-  pub touched : List Bool
+  pub origins : List ℕ
 
 -- the slot of a line
 abbrev pub slot_at : List ℕ → ℕ → ℕ
@@ -26,7 +26,7 @@ rows_of h = table (length h.order) (λ line. row_in h.slots (slot_at h.order lin
 
 -- what users see
 abbrev pub grid_of : Held → Grid
-grid_of h = record { columns = h.columns; lines = length h.order; rows = rows_of h; touched = h.touched }
+grid_of h = record { columns = h.columns; lines = length h.order; rows = rows_of h; origins = h.origins }
 
 -- each line has a slot of its own
 pub record Once (order : List ℕ) : Type 0 where
@@ -41,7 +41,7 @@ pub record Sound (h : Held) : Type 0 where
   pub lines_low : 1 ≤ length h.order
   pub lines_high : length h.order ≤ 500
   pub slots : length h.slots ≡ length h.order
-  pub touched : length h.touched ≡ length h.order
+  pub origins : length h.origins ≡ length h.order
   pub once : Once h.order
   pub cells : (slot : ℕ) → slot < length h.order → length (row_in h.slots slot) ≡ h.columns
   pub whole : (slot : ℕ) → slot < length h.order → Whole (row_in h.slots slot)

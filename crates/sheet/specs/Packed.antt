@@ -1,22 +1,22 @@
 -- Private: rows that are kept up to their last cell that isn't blank.
-use Rattle.std.specs.Prelude.{ℕ, ◌-◌, ◌≤◌, true, List, length}
+use Rattle.std.specs.Prelude.{ℕ, ◌-◌, ◌≤◌, List, length}
 use Rattle.sheet.specs.Table.{table}
 use Rattle.sheet.specs.Cells.{Cell, cell_at}
 use Rattle.sheet.specs.Halves.{Whole}
-use Rattle.sheet.specs.Grid.{Grid}
+use Rattle.sheet.specs.Grid.{Grid, no_origins}
 use Rattle.sheet.specs.Held.{row_in}
 
 -- a row of which these are the first cells; behind them all are blank
 abbrev pub unpacked : ℕ → List Cell → List Cell
 unpacked columns kept = table columns (λ column. cell_at kept column)
 
--- the sheet of these rows, all of it touched
+-- the sheet of these rows, of which no origin is known
 abbrev pub packed_grid : ℕ → List (List Cell) → Grid
 packed_grid columns kept = record {
   columns = columns;
   lines = length kept;
   rows = table (length kept) (λ line. unpacked columns (row_in kept (line - 1)));
-  touched = table (length kept) (λ _. true);
+  origins = no_origins (length kept);
 }
 
 -- they are the rows of a sheet

@@ -4,4 +4,4 @@ use Rattle.sheet.specs.Held.{Held}
 
 -- the fields' lists
 abbrev pub held_of : Fields → Held
-held_of s = record { columns = s.columns; order = s.order.items; slots = s.slots.items; touched = s.touched.items }
+held_of s = record { columns = s.columns; order = s.order.items; slots = s.slots.items; origins = s.origins.items }

@@ -1,9 +1,9 @@
 //! Sheets: rows of cells behind an order, so that a scroll moves no cells.
 
-ghost use Rattle.std.specs.Prelude.{◌≡◌, ◌+◌, ◌-◌, ◌*◌, ◌<◌, ◌≤◌, IfOk, List, ℕ, false, length, slice_index_or, true};
+ghost use Rattle.std.specs.Prelude.{◌≡◌, ◌+◌, ◌-◌, ◌*◌, ◌<◌, ◌≤◌, IfOk, List, ℕ, false, length, true};
 ghost use Rattle.sheet.specs.Cells.{Cell};
 ghost use Rattle.sheet.specs.Grid.{IsUsed, Told, aligned, blank_row, blank_rows, first_grid, is_touched, lines_erased};
-ghost use Rattle.sheet.specs.Grid.{row_at, scrolled_down, scrolled_up, touched_from, with_row};
+ghost use Rattle.sheet.specs.Grid.{origin_of, own_origins, row_at, scrolled_down, scrolled_up, unknown_from, with_row};
 ghost use Rattle.sheet.specs.EditOf.{Fits, edited};
 ghost use Rattle.sheet.specs.Halves.{Whole};
 ghost use Rattle.sheet.specs.Table.{table};
@@ -19,18 +19,20 @@ use crate::limits::{LEAST_COLUMNS, MOST_COLUMNS, MOST_LINES};
 use crate::pen::{Paper, Pen};
 use crate::rendition::Colour;
 use crate::slot::Slot;
-use marked::next_mark;
+use marked::next_touched;
 pub use packed::PackedSheet;
 use std::alloc::{AllocError, Global};
 use std::marker::Model;
 
-/// Rows of cells, a size that never changes, and the lines touched since that was last cleared.
+/// Rows of cells, a size that never changes, and for each line the one whose row it has, as rows stood when the marks
+/// were last cleared.
 #[derive(Debug, Drop)]
 pub struct Sheet {
     columns: u16,
     order: Vec<u16>,
     slots: Vec<Slot>,
-    touched: Vec<bool>,
+    // From 1, and 0 where the row was written since.
+    origins: Vec<u16>,
 }
 
 impl Model for Sheet {
@@ -62,7 +64,7 @@ impl Sheet {
         let slot = self.order[line as usize - 1] as usize;
         let row = &mut self.slots[slot];
         row.edit(edit);
-        self.touched[line as usize - 1] = true;
+        self.origins[line as usize - 1] = 0;
     }
 
     /// Blanks the cells of a line from one column to another.
@@ -126,7 +128,7 @@ impl Sheet {
         let slot = self.order[line as usize - 1] as usize;
         let row = &mut self.slots[slot];
         row.put_run(column as usize, characters, rendition);
-        self.touched[line as usize - 1] = true;
+        self.origins[line as usize - 1] = 0;
     }
 
     /// Puts characters of one column, one after another.
@@ -144,7 +146,7 @@ impl Sheet {
         let slot = self.order[line as usize - 1] as usize;
         let row = &mut self.slots[slot];
         row.put_letters(column as usize, letters, rendition);
-        self.touched[line as usize - 1] = true;
+        self.origins[line as usize - 1] = 0;
     }
 
     /// A character of width 0 joins the one that lies at a column, where that has fewer than two.
@@ -211,7 +213,7 @@ impl Sheet {
             last,
             cell,
         );
-        touch_lines(self.touched.as_mut_slice(), first, last);
+        forget_lines(self.origins.as_mut_slice(), first, last);
     }
 
     /// Blanks all lines.
@@ -241,7 +243,7 @@ impl Sheet {
             last,
             cell,
         );
-        touch_lines(self.touched.as_mut_slice(), 1, last);
+        forget_lines(self.origins.as_mut_slice(), 1, last);
     }
 
     /// The lines from the top to the bottom move up by `n`, and blank ones come in.
@@ -258,15 +260,16 @@ impl Sheet {
         let (top, bottom) = (top as usize, bottom as usize);
         let n = (n as usize).min(bottom + 1 - top);
         turn(self.order.as_mut_slice(), n, top, bottom);
+        let (first, last) = (bottom + 1 - n, bottom + 1);
         let cell = Cell::blank(paper);
         fill_lines(
             self.slots.as_mut_slice(),
             self.order.as_slice(),
-            bottom + 1 - n,
-            bottom + 1,
+            first,
+            last,
             cell,
         );
-        touch_lines(self.touched.as_mut_slice(), top, bottom + 1);
+        turn_origins(self.origins.as_mut_slice(), n, top, bottom, first, last);
     }
 
     /// The lines from the top to the bottom move down by `n`, and blank ones come in.
@@ -283,18 +286,26 @@ impl Sheet {
         let (top, bottom) = (top as usize, bottom as usize);
         let n = (n as usize).min(bottom + 1 - top);
         turn(self.order.as_mut_slice(), bottom + 1 - top - n, top, bottom);
+        let (first, last) = (top, top + n);
         let cell = Cell::blank(paper);
         fill_lines(
             self.slots.as_mut_slice(),
             self.order.as_slice(),
-            top,
-            top + n,
+            first,
+            last,
             cell,
         );
-        touch_lines(self.touched.as_mut_slice(), top, bottom + 1);
+        turn_origins(
+            self.origins.as_mut_slice(),
+            bottom + 1 - top - n,
+            top,
+            bottom,
+            first,
+            last,
+        );
     }
 
-    /// A blank sheet, all of it touched. Only here memory is taken.
+    /// A blank sheet, of which no line's origin is known. Only here memory is taken.
     pub fn new(alloc: Global, columns: u16, lines: u16) -> Result<Self, AllocError>
         requires columns_low { LEAST_COLUMNS ≤ columns }
         requires columns_high { columns ≤ MOST_COLUMNS }
@@ -304,16 +315,16 @@ impl Sheet {
     {
         let order = first_order(alloc, lines)?;
         let slots = blank_slots(alloc, columns, lines)?;
-        let touched = vec![in alloc; true; lines as usize]?;
+        let origins = vec![in alloc; 0; lines as usize]?;
         Ok(Sheet {
             columns,
             order,
             slots,
-            touched,
+            origins,
         })
     }
 
-    /// Becomes the other sheet, touched lines and all. It takes no memory.
+    /// Becomes the other sheet, the origins of its rows too. It takes no memory.
     pub fn copy_from(&mut self, other: &Sheet)
         requires columns { other.now.columns ≡ self.old.columns }
         requires lines { other.now.lines ≡ self.old.lines }
@@ -323,9 +334,9 @@ impl Sheet {
             .as_mut_slice()
             .copy_from_slice(other.order.as_slice());
         copy_slots(self.slots.as_mut_slice(), other.slots.as_slice());
-        self.touched
+        self.origins
             .as_mut_slice()
-            .copy_from_slice(other.touched.as_slice());
+            .copy_from_slice(other.origins.as_slice());
     }
 
     /// How many columns each row has.
@@ -380,36 +391,46 @@ impl Sheet {
         self.slot(line).used()
     }
 
-    /// Whether a line was touched since that was last cleared.
+    /// The line of which this one has the row, as rows stood when the marks were last cleared; 0 where that isn't known,
+    /// as the row was written since.
+    pub fn origin(&self, line: u16) -> u16
+        requires low { 1 ≤ line }
+        requires high { line ≤ self.now.lines }
+        ensures { result ≡ origin_of self.now.origins line }
+    {
+        self.origins[line as usize - 1]
+    }
+
+    /// Whether a line was touched since the marks were last cleared.
     pub fn is_touched(&self, line: u16) -> bool
         requires low { 1 ≤ line }
         requires high { line ≤ self.now.lines }
-        ensures { result ≡ is_touched self.now.touched line }
+        ensures { result ≡ is_touched self.now.origins line }
     {
-        self.touched[line as usize - 1]
+        self.origin(line) != line
     }
 
-    /// Whether a line was touched since that was last cleared.
+    /// Whether a line was touched since the marks were last cleared.
     pub fn any_touched(&self) -> bool
         ensures { result ≡ false → (line : ℕ) → 1 ≤ line → line ≤ self.now.lines
-            → is_touched self.now.touched line ≡ false }
+            → is_touched self.now.origins line ≡ false }
     {
-        is_any(self.touched.as_slice())
+        is_any_touched(self.origins.as_slice())
     }
 
-    /// The first line from one on that was touched since that was last cleared; one behind the last where none was.
+    /// The first line from one on that was touched since the marks were last cleared; one behind the last where none was.
     pub fn next_touched(&self, line: u16) -> u16
         requires low { 1 ≤ line }
         requires high { line ≤ self.now.lines + 1 }
         ensures low { line ≤ result }
         ensures high { result ≤ self.now.lines + 1 }
-        ensures between { (k : ℕ) → line ≤ k → k < result → is_touched self.now.touched k ≡ false }
-        ensures touched { result ≤ self.now.lines → is_touched self.now.touched result ≡ true }
+        ensures between { (k : ℕ) → line ≤ k → k < result → is_touched self.now.origins k ≡ false }
+        ensures touched { result ≤ self.now.lines → is_touched self.now.origins result ≡ true }
     {
-        next_mark(self.touched.as_slice(), line as usize - 1) as u16 + 1
+        next_touched(self.origins.as_slice(), line as usize - 1) as u16 + 1
     }
 
-    /// From here on all lines count as touched, as where another sheet takes the place of one that was shown.
+    /// From here on no line's origin is known, as where another sheet takes the place of one that was shown.
     pub fn touch_all(&mut self)
         ensures rows { self.new.rows ≡ self.old.rows }
         ensures columns { self.new.columns ≡ self.old.columns }
@@ -417,7 +438,7 @@ impl Sheet {
         ensures told { (before : List (List Cell)) → Told before self.new }
     {
         let last = self.order.len() + 1;
-        touch_lines(self.touched.as_mut_slice(), 1, last);
+        forget_lines(self.origins.as_mut_slice(), 1, last);
     }
 
     /// From here on lines are told against the rows of now.
@@ -425,11 +446,11 @@ impl Sheet {
         ensures rows { self.new.rows ≡ self.old.rows }
         ensures columns { self.new.columns ≡ self.old.columns }
         ensures lines { self.new.lines ≡ self.old.lines }
-        ensures untouched { (line : ℕ) → 1 ≤ line → line ≤ self.old.lines → is_touched self.new.touched line
+        ensures untouched { (line : ℕ) → 1 ≤ line → line ≤ self.old.lines → is_touched self.new.origins line
             ≡ false }
         ensures told { Told self.old.rows self.new }
     {
-        untouch(self.touched.as_mut_slice());
+        name_lines(self.origins.as_mut_slice());
     }
 }
 
@@ -469,13 +490,13 @@ fn copy_slots(slots: &mut [Slot], others: &[Slot])
     }
 }
 
-/// No line is touched.
-fn untouch(touched: &mut [bool])
-    ensures { (line : ℕ) → 1 ≤ line → line ≤ length touched.old → is_touched touched.new line
-        ≡ false }
+/// Each line has its own row.
+fn name_lines(origins: &mut [u16])
+    requires { length origins.old ≤ MOST_LINES }
+    ensures { origins.new ≡ own_origins (length origins.old) }
 {
-    for line in touched.iter_mut() {
-        *line = false;
+    for i in 0..origins.len() {
+        origins[i] = i as u16 + 1;
     }
 }
 
@@ -507,25 +528,42 @@ fn fill_lines(slots: &mut [Slot], order: &[u16], first: usize, last: usize, cell
     }
 }
 
-/// Touches the lines from one to before another.
-fn touch_lines(touched: &mut [bool], first: usize, last: usize)
+/// Where the rows of the lines from one to before another came from isn't known.
+fn forget_lines(origins: &mut [u16], first: usize, last: usize)
     requires low { 1 ≤ first }
     requires apart { first ≤ last }
-    requires high { last ≤ length touched.old + 1 }
-    ensures { touched.new ≡ touched_from first last touched.old }
+    requires high { last ≤ length origins.old + 1 }
+    ensures { origins.new ≡ unknown_from first last origins.old }
 {
     for line in first..last {
-        touched[line - 1] = true;
+        origins[line - 1] = 0;
     }
 }
 
-/// Whether one of these is true. It goes over all of them with no way out, since that is done many at a time.
-fn is_any(marks: &[bool]) -> bool
-    ensures { result ≡ false → (k : ℕ) → k < length marks.now → slice_index_or marks.now k true ≡ false }
+/// The origins of lines turn with their rows, and those from one to before another aren't known then.
+fn turn_origins(origins: &mut [u16], n: usize, top: usize, bottom: usize, first: usize, last: usize)
+    requires low { 1 ≤ top }
+    requires room { top + n ≤ bottom + 1 }
+    requires apart { top ≤ bottom }
+    requires high { bottom ≤ length origins.old }
+    requires first_low { 1 ≤ first }
+    requires first_high { first ≤ last }
+    requires last_high { last ≤ length origins.old + 1 }
+    ensures { origins.new ≡ unknown_from first last (turned_up n top bottom origins.old) }
+{
+    turn(origins, n, top, bottom);
+    forget_lines(origins, first, last);
+}
+
+/// Whether a line hasn't its own row. It goes over all of them with no way out, since that is done many at a time.
+fn is_any_touched(origins: &[u16]) -> bool
+    requires { length origins.now ≤ MOST_LINES }
+    ensures { result ≡ false → (line : ℕ) → 1 ≤ line → line ≤ length origins.now
+        → is_touched origins.now line ≡ false }
 {
     let mut any = false;
-    for mark in marks {
-        any |= *mark;
+    for i in 0..origins.len() {
+        any |= origins[i] != i as u16 + 1;
     }
     any
 }

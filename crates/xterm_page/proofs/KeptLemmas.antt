@@ -8,7 +8,7 @@ use Rattle.xterm_rows.proofs.RangeLemmas.{range_first, range_split}
 use Rattle.sheet.specs.Cells.{Cell}
 use Rattle.std.proofs.lemmas.Bool.{cases_Bool, not-false}
 use Rattle.std.proofs.lemmas.List.{length-set}
-use Rattle.sheet.specs.Grid.{is_touched, row_at}
+use Rattle.sheet.specs.Grid.{AreMarked as MarksTell, is_touched, row_at}
 use Rattle.sheet.specs.Table.{nth}
 use Rattle.xterm_screen.specs.Picture.{Picture}
 use Rattle.xterm_term.specs.declared.measure.Size.{Size}
@@ -18,7 +18,7 @@ use Rattle.xterm_term.specs.Term.{play}
 use Rattle.xterm_print.specs.Moments.{reset_as}
 use Rattle.xterm_print.proofs.KeptLemmas.{row_read}
 use Rattle.xterm_page.specs.Entries.{line_of}
-use Rattle.xterm_page.specs.Parts.{AreKept, AreTold, AreWide, KeptAll, is_renewed}
+use Rattle.xterm_page.specs.Parts.{AreKept, AreWide, KeptAll, is_renewed}
 use Rattle.xterm_page.specs.Same.{row_number, same_row}
 use Rattle.xterm_page.proofs.EqualLemmas.{lists_equal, rows_equal}
 
@@ -67,12 +67,12 @@ lines_by law terminal size bytes shows = ap (λ s. s.picture.lines) (sym shows.c
 -- ---- lines that differ
 
 -- where the others are told, a line that isn't renewed has the row of before
-pub stays : (touched : List Bool) (line : ℕ) (before after : List (List Cell)) → AreTold before touched after
-    → is_renewed touched (row_at before line) (row_at after line) line ≡ false → row_at before line ≡ row_at after line
-stays touched line before after told same = elim (cases_Bool (is_touched touched line)) [
+pub stays : (origins : List ℕ) (line : ℕ) (before after : List (List Cell)) → MarksTell before origins after
+    → is_renewed origins (row_at before line) (row_at after line) line ≡ false → row_at before line ≡ row_at after line
+stays origins line before after told same = elim (cases_Bool (is_touched origins line)) [
   | inl t ↦ rows_equal (row_at before line) (row_at after line)
       (not-false _ (sym (ap (λ b. b && not (same_row (row_at before line) (row_at after line))) t) ∙ same))
-  | inr f ↦ sym (told line f)
+  | inr f ↦ sym (told.stay line f)
 ]
 
 -- a line that was a row, where an earlier one may have been it

@@ -8,14 +8,14 @@ use Rattle.chunk_walk.specs.Walk.{all_texts}
 use Rattle.tape_core.specs.Due.{indices}
 use Rattle.tape_core.specs.Tape.{Tape}
 use Rattle.sheet.specs.Cells.{Cell}
-use Rattle.sheet.specs.Grid.{is_touched, row_at}
+use Rattle.sheet.specs.Grid.{AreMarked as MarksTell, is_touched, row_at}
 use Rattle.screen_page.specs.Page.{front, tail}
 use Rattle.xterm_term.specs.declared.measure.Size.{Size}
 use Rattle.xterm_term.specs.Console.{Console}
 use Rattle.xterm_page.specs.Entries.{change_of, changed_lines, changes, entry_at, entry_of, first_entry, is_changed}
 use Rattle.xterm_page.specs.EntryText.{data_text, entry_front, entry_text, named_text, next_text, size_text}
 use Rattle.xterm_page.specs.Page.{page_text}
-use Rattle.xterm_page.specs.Parts.{AreTold, changed_text, chunk_text, closing, first_text, front_text, is_renewed, line_text, lines_text, opening, renewed, renewed_text}
+use Rattle.xterm_page.specs.Parts.{changed_text, chunk_text, closing, first_text, front_text, is_renewed, line_text, lines_text, opening, renewed, renewed_text}
 use Rattle.xterm_page.specs.Same.{same_row}
 use Rattle.xterm_page.proofs.RenewedLemmas.{told_of}
 use Rattle.xterm_page.proofs.SameLemmas.{row_itself}
@@ -31,45 +31,45 @@ passing f passes (x ∷ xs) = elim (cases_Bool (passes x)) [
 ]
 
 -- where lines that weren't touched have the rows of before, lines that differ are those that are told as changed
-renewed_is : (touched : List Bool) (before after : List (List Cell)) (line : ℕ) → AreTold before touched after
-    → is_renewed touched (row_at before line) (row_at after line) line ≡ is_changed before after line
-renewed_is touched before after line told = elim (cases_Bool (is_touched touched line)) [
+renewed_is : (origins : List ℕ) (before after : List (List Cell)) (line : ℕ) → MarksTell before origins after
+    → is_renewed origins (row_at before line) (row_at after line) line ≡ is_changed before after line
+renewed_is origins before after line told = elim (cases_Bool (is_touched origins line)) [
   | inl t ↦ ap (λ b. b && is_changed before after line) t
-  | inr f ↦ ap (λ b. b && is_changed before after line) f ∙ sym (ap not (ap (same_row (row_at before line)) (told line f) ∙ row_itself (row_at before line)))
+  | inr f ↦ ap (λ b. b && is_changed before after line) f ∙ sym (ap not (ap (same_row (row_at before line)) (told.stay line f) ∙ row_itself (row_at before line)))
 ]
 
 all_alike : (f g : ℕ → List ℕ) → ((x : ℕ) → f x ≡ g x) → (xs : List ℕ) → flat_map f xs ≡ flat_map g xs
 all_alike f g same [] = refl
 all_alike f g same (x ∷ xs) = ap₂ (λ a b. a ++ b) (same x) (all_alike f g same xs)
 
-pub lines_told : (touched : List Bool) (lines : ℕ) (before after : List (List Cell)) → AreTold before touched after
-    → flat_map named_text (changes lines before after) ≡ lines_text touched lines before after
+pub lines_told : (origins : List ℕ) (lines : ℕ) (before after : List (List Cell)) → MarksTell before origins after
+    → flat_map named_text (changes lines before after) ≡ lines_text origins lines before after
 unfolding changes changed_lines lines_text line_text changed_text
-lines_told touched lines before after told =
+lines_told origins lines before after told =
     let text : ℕ → List ℕ = λ line. named_text (change_of lines before (row_at after line) line) in
     flat_map-map named_text (λ line. change_of lines before (row_at after line) line) (filter (is_changed before after) (range_with_len 1 lines))
     ∙ passing text (is_changed before after) (range_with_len 1 lines)
     ∙ all_alike (λ line. if is_changed before after line then text line else [])
-    (λ line. if is_renewed touched (row_at before line) (row_at after line) line then text line else [])
-    (λ line. ap (λ b. if b then text line else []) (sym (renewed_is touched before after line told)))
+    (λ line. if is_renewed origins (row_at before line) (row_at after line) line then text line else [])
+    (λ line. ap (λ b. if b then text line else []) (sym (renewed_is origins before after line told)))
     (range_with_len 1 lines)
 
 -- the lines that are told as changed are these
-pub lines_renewed : (touched : List Bool) (lines : ℕ) (before after : List (List Cell))
-    → flat_map (renewed_text after) (renewed touched lines before after) ≡ lines_text touched lines before after
+pub lines_renewed : (origins : List ℕ) (lines : ℕ) (before after : List (List Cell))
+    → flat_map (renewed_text after) (renewed origins lines before after) ≡ lines_text origins lines before after
 unfolding lines_text line_text changed_text
-lines_renewed touched lines before after =
-    let p : ℕ → Bool = λ line. is_renewed touched (row_at before line) (row_at after line) line in
+lines_renewed origins lines before after =
+    let p : ℕ → Bool = λ line. is_renewed origins (row_at before line) (row_at after line) line in
     flat_map-map (renewed_text after) (told_of lines before after) (filter p (range_with_len 1 lines))
     ∙ passing (λ line. renewed_text after (told_of lines before after line)) p (range_with_len 1 lines)
 
 -- an entry: what opens it, its front, its lines, and what closes it
-pub entry_is : (touched : List Bool) (due : ℕ) (before : List (List Cell)) (after : Console) → AreTold before touched after.picture.rows
+pub entry_is : (origins : List ℕ) (due : ℕ) (before : List (List Cell)) (after : Console) → MarksTell before origins after.picture.rows
     → next_text (entry_of due before after)
-    ≡ (((44 ∷ 10 ∷ 91 ∷ []) ++ front_text due after) ++ lines_text touched after.picture.lines before after.picture.rows) ++ 93 ∷ []
+    ≡ (((44 ∷ 10 ∷ 91 ∷ []) ++ front_text due after) ++ lines_text origins after.picture.lines before after.picture.rows) ++ 93 ∷ []
 unfolding next_text entry_text front_text entry_front
-entry_is touched due before after told =
-    ap (λ l. ((44 ∷ 10 ∷ 91 ∷ []) ++ front_text due after) ++ l ++ 93 ∷ []) (lines_told touched after.picture.lines before after.picture.rows told)
+entry_is origins due before after told =
+    ap (λ l. ((44 ∷ 10 ∷ 91 ∷ []) ++ front_text due after) ++ l ++ 93 ∷ []) (lines_told origins after.picture.lines before after.picture.rows told)
 
 -- ---- the parts
 

@@ -9,9 +9,9 @@ use Rattle.std.proofs.lemmas.List.Concat.{flat_map-append}
 use Rattle.std.proofs.lemmas.List.Elements.{All-filter, All-from_get_or, All-map}
 use Rattle.std.proofs.lemmas.List.FromFn.{get_or-range_with_len, length-range_with_len}
 use Rattle.sheet.specs.Cells.{Cell}
-use Rattle.sheet.specs.Grid.{is_touched, row_at}
+use Rattle.sheet.specs.Grid.{AreMarked as MarksTell, is_touched, row_at}
 use Rattle.xterm_print.proofs.KeptLemmas.{passing_more, passing_none, row_set_other}
-use Rattle.xterm_page.specs.Parts.{AreLines, AreTold, is_renewed, renewed, renewed_lines, renewed_of, renewed_to}
+use Rattle.xterm_page.specs.Parts.{AreLines, is_renewed, renewed, renewed_lines, renewed_of, renewed_to}
 use Rattle.xterm_page.specs.declared.kept.Renewed.{Renewed}
 use Rattle.xterm_page.specs.Same.{same_row}
 use Rattle.xterm_page.proofs.KeptLemmas.{row_written, stays}
@@ -27,13 +27,13 @@ mapped_if f line true = refl
 mapped_if f line false = refl
 
 -- one line more
-pub renewed_more : (touched : List Bool) (lines : ℕ) (before after : List (List Cell)) (line : ℕ) (here : Bool) (old new : List (ℕ × Renewed))
-    → 1 ≤ line → here ≡ is_renewed touched (row_at before line) (row_at after line) line
-    → old ≡ renewed_to (line - 1) touched lines before after → new ≡ old ++ cond here (told_of lines before after line ∷ []) []
-    → new ≡ renewed_to (line + 1 - 1) touched lines before after
-renewed_more touched lines before after line here old new low is so_far more =
+pub renewed_more : (origins : List ℕ) (lines : ℕ) (before after : List (List Cell)) (line : ℕ) (here : Bool) (old new : List (ℕ × Renewed))
+    → 1 ≤ line → here ≡ is_renewed origins (row_at before line) (row_at after line) line
+    → old ≡ renewed_to (line - 1) origins lines before after → new ≡ old ++ cond here (told_of lines before after line ∷ []) []
+    → new ≡ renewed_to (line + 1 - 1) origins lines before after
+renewed_more origins lines before after line here old new low is so_far more =
     let f = told_of lines before after in
-    let p : ℕ → Bool = λ k. is_renewed touched (row_at before k) (row_at after k) k in
+    let p : ℕ → Bool = λ k. is_renewed origins (row_at before k) (row_at after k) k in
     let was = filter p (range_with_len 1 (line - 1)) in
     let now = passing_more p line here was (was ++ cond here (line ∷ []) []) low is refl refl in
     more ∙ ap (λ l. l ++ cond here (f line ∷ []) []) so_far
@@ -42,11 +42,11 @@ renewed_more touched lines before after line here old new low is so_far more =
     ∙ ap (map f) now
 
 -- the lines up to another, of which none was touched
-pub renewed_none : (touched : List Bool) (lines : ℕ) (before after : List (List Cell)) (line next : ℕ) → 1 ≤ line → line ≤ next
-    → ((k : ℕ) → line ≤ k → k < next → is_touched touched k ≡ false)
-    → renewed_to (line - 1) touched lines before after ≡ renewed_to (next - 1) touched lines before after
-renewed_none touched lines before after line next low high none =
-    let p : ℕ → Bool = λ k. is_renewed touched (row_at before k) (row_at after k) k in
+pub renewed_none : (origins : List ℕ) (lines : ℕ) (before after : List (List Cell)) (line next : ℕ) → 1 ≤ line → line ≤ next
+    → ((k : ℕ) → line ≤ k → k < next → is_touched origins k ≡ false)
+    → renewed_to (line - 1) origins lines before after ≡ renewed_to (next - 1) origins lines before after
+renewed_none origins lines before after line next low high none =
+    let p : ℕ → Bool = λ k. is_renewed origins (row_at before k) (row_at after k) k in
     let all : line - 1 + (next - line) ≡ next - 1 = omega (arith, low, high) in
     ap (map (told_of lines before after))
     (sym (passing_none p (line - 1) (next - line) (λ k from below.
@@ -59,26 +59,26 @@ in_range lines = All-from_get_or (λ n. (1 ≤ n) × (n ≤ lines)) (range_with_
     let at = get_or-range_with_len 1 lines i 0 few in
     (omega (arith, at), omega (arith, at, few)))
 
-pub are_lines : (touched : List Bool) (lines : ℕ) (before after : List (List Cell)) → AreLines lines (renewed touched lines before after)
-are_lines touched lines before after =
-    let p : ℕ → Bool = λ k. is_renewed touched (row_at before k) (row_at after k) k in
+pub are_lines : (origins : List ℕ) (lines : ℕ) (before after : List (List Cell)) → AreLines lines (renewed origins lines before after)
+are_lines origins lines before after =
+    let p : ℕ → Bool = λ k. is_renewed origins (row_at before k) (row_at after k) k in
     All-map (λ (one : ℕ × Renewed). (1 ≤ one.0) × (one.0 ≤ lines)) (told_of lines before after) (filter p (range_with_len 1 lines))
     (All-filter p (λ n. (1 ≤ n) × (n ≤ lines)) (range_with_len 1 lines) (in_range lines))
 
 -- one of them
-pub renewed_read : (touched : List Bool) (lines : ℕ) (before after : List (List Cell)) (at : ℕ) (d : ℕ × Renewed) (changed : List (ℕ × Renewed))
-    → changed ≡ renewed touched lines before after → at < length changed
-    → get_or changed at d ≡ told_of lines before after (get_or (renewed_lines lines touched before after) at 0)
-renewed_read touched lines before after at d changed is within =
+pub renewed_read : (origins : List ℕ) (lines : ℕ) (before after : List (List Cell)) (at : ℕ) (d : ℕ × Renewed) (changed : List (ℕ × Renewed))
+    → changed ≡ renewed origins lines before after → at < length changed
+    → get_or changed at d ≡ told_of lines before after (get_or (renewed_lines lines origins before after) at 0)
+renewed_read origins lines before after at d changed is within =
     let f = told_of lines before after in
-    let names = renewed_lines lines touched before after in
+    let names = renewed_lines lines origins before after in
     let below : at < length names = omega (arith, within, ap length is, length-map names f) in
     ap (λ l. get_or l at d) is ∙ get_or-map f names at 0 d below
 
-pub renewed_long : (touched : List Bool) (lines : ℕ) (before after : List (List Cell)) (changed : List (ℕ × Renewed))
-    → changed ≡ renewed touched lines before after → length changed ≡ length (renewed_lines lines touched before after)
-renewed_long touched lines before after changed is =
-    ap length is ∙ length-map (renewed_lines lines touched before after) (told_of lines before after)
+pub renewed_long : (origins : List ℕ) (lines : ℕ) (before after : List (List Cell)) (changed : List (ℕ × Renewed))
+    → changed ≡ renewed origins lines before after → length changed ≡ length (renewed_lines lines origins before after)
+renewed_long origins lines before after changed is =
+    ap length is ∙ length-map (renewed_lines lines origins before after) (told_of lines before after)
 
 -- texts of elements, and of one more
 pub texts_taken : {X : Type 0} (text : X → List ℕ) (xs : List X) (at : ℕ) (d : X) → at < length xs
@@ -147,12 +147,12 @@ holds_taken k at xs x within is =
     ap (holds k) (take_more xs at 0 within ∙ ap (λ n. take at xs ++ n ∷ []) (sym is)) ∙ holds_more k (take at xs) x
 
 -- where the others are told, a line has its row of after, renewed or not
-pub told_or_stays : (touched : List Bool) (line : ℕ) (before after : List (List Cell)) → AreTold before touched after
-    → cond (is_renewed touched (row_at before line) (row_at after line) line) (row_at after line) (row_at before line) ≡ row_at after line
-told_or_stays touched line before after told =
-    elim (cases_Bool (is_renewed touched (row_at before line) (row_at after line) line)) [
+pub told_or_stays : (origins : List ℕ) (line : ℕ) (before after : List (List Cell)) → MarksTell before origins after
+    → cond (is_renewed origins (row_at before line) (row_at after line) line) (row_at after line) (row_at before line) ≡ row_at after line
+told_or_stays origins line before after told =
+    elim (cases_Bool (is_renewed origins (row_at before line) (row_at after line) line)) [
       | inl t ↦ ap (λ b. cond b (row_at after line) (row_at before line)) t
-      | inr f ↦ ap (λ b. cond b (row_at after line) (row_at before line)) f ∙ stays touched line before after told f
+      | inr f ↦ ap (λ b. cond b (row_at after line) (row_at before line)) f ∙ stays origins line before after told f
     ]
 
 or_false : (b : Bool) → (b || false) ≡ b

@@ -31,25 +31,25 @@ unfoldable pub changed_text : ℕ → List (List Cell) → List Cell → ℕ →
 changed_text lines before row line = named_text (change_of lines before row line)
 
 -- a line is told as changed: it was touched, and differs
-abbrev pub is_renewed : List Bool → List Cell → List Cell → ℕ → Bool
-is_renewed touched was row line = is_touched touched line && not (same_row was row)
+abbrev pub is_renewed : List ℕ → List Cell → List Cell → ℕ → Bool
+is_renewed origins was row line = is_touched origins line && not (same_row was row)
 
 -- what is known of a row: its number, and the first of so many lines that was this row before
 abbrev pub renewed_of : ℕ → List (List Cell) → List Cell → Renewed
 renewed_of lines before row = record { number = row_number row; was = line_of lines before row }
 
 -- the lines that are told as changed, up to one
-abbrev pub renewed_lines : ℕ → List Bool → List (List Cell) → List (List Cell) → List ℕ
-renewed_lines to touched before after =
-    filter (λ line. is_renewed touched (row_at before line) (row_at after line) line) (range_with_len 1 to)
+abbrev pub renewed_lines : ℕ → List ℕ → List (List Cell) → List (List Cell) → List ℕ
+renewed_lines to origins before after =
+    filter (λ line. is_renewed origins (row_at before line) (row_at after line) line) (range_with_len 1 to)
 
 -- what is known of each of them, up to one of so many and of all
-abbrev pub renewed_to : ℕ → List Bool → ℕ → List (List Cell) → List (List Cell) → List (ℕ × Renewed)
-renewed_to to touched lines before after =
-    map (λ line. (line, renewed_of lines before (row_at after line))) (renewed_lines to touched before after)
+abbrev pub renewed_to : ℕ → List ℕ → ℕ → List (List Cell) → List (List Cell) → List (ℕ × Renewed)
+renewed_to to origins lines before after =
+    map (λ line. (line, renewed_of lines before (row_at after line))) (renewed_lines to origins before after)
 
-abbrev pub renewed : List Bool → ℕ → List (List Cell) → List (List Cell) → List (ℕ × Renewed)
-renewed touched lines before after = renewed_to lines touched lines before after
+abbrev pub renewed : List ℕ → ℕ → List (List Cell) → List (List Cell) → List (ℕ × Renewed)
+renewed origins lines before after = renewed_to lines origins lines before after
 
 -- these are lines of so many
 abbrev pub AreLines : ℕ → List (ℕ × Renewed) → Type 0
@@ -76,18 +76,14 @@ abbrev pub renewed_text : List (List Cell) → ℕ × Renewed → List ℕ
 renewed_text after (line, renewed) = named_text (line, change_by renewed.was (row_at after line))
 
 -- what is written of a line
-unfoldable pub line_text : List Bool → ℕ → List (List Cell) → List Cell → ℕ → List ℕ
-line_text touched lines before row line =
-    if is_renewed touched (row_at before line) row line then changed_text lines before row line else []
+unfoldable pub line_text : List ℕ → ℕ → List (List Cell) → List Cell → ℕ → List ℕ
+line_text origins lines before row line =
+    if is_renewed origins (row_at before line) row line then changed_text lines before row line else []
 
 -- the lines that have changed, of so many
-unfoldable pub lines_text : List Bool → ℕ → List (List Cell) → List (List Cell) → List ℕ
-lines_text touched lines before after =
-    flat_map (λ line. line_text touched lines before (row_at after line) line) (range_with_len 1 lines)
-
--- each line that wasn't touched has the row of before
-abbrev pub AreTold : List (List Cell) → List Bool → List (List Cell) → Type 0
-AreTold before touched rows = (line : ℕ) → is_touched touched line ≡ false → row_at rows line ≡ row_at before line
+unfoldable pub lines_text : List ℕ → ℕ → List (List Cell) → List (List Cell) → List ℕ
+lines_text origins lines before after =
+    flat_map (λ line. line_text origins lines before (row_at after line) line) (range_with_len 1 lines)
 
 -- when a chunk is due, the flags and the cursor
 unfoldable pub front_text : ℕ → Console → List ℕ

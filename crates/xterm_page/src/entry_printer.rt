@@ -8,7 +8,7 @@ ghost use Rattle.xterm_page.specs.Entries.{entry_of};
 ghost use Rattle.xterm_page.specs.EntryText.{next_text};
 ghost use Rattle.held.specs.Held.{Wrote};
 ghost use Rattle.xterm_page.specs.Parts.{AreLines, front_text, renewed, renewed_text};
-ghost use Rattle.xterm_term.specs.Seen.{Told};
+ghost use Rattle.xterm_term.specs.Seen.{Tells};
 
 use crate::kept::{KeptRow, Renewed, catch_up, changed_rows, kept_rows};
 use crate::numbers::put_comma_number;
@@ -80,8 +80,8 @@ fn put_entry<W: Write>(
     writer: &mut Watched<W>,
 )
     requires { AreLines after.now.console.picture.lines changed.now }
-    ensures { (before : List (List Cell)) → Told before after.now
-        → changed.now ≡ renewed after.now.touched after.now.console.picture.lines before
+    ensures { (before : List (List Cell)) → Tells before after.now
+        → changed.now ≡ renewed after.now.origins after.now.console.picture.lines before
         after.now.console.picture.rows → Gave W.contents writer.old writer.new
         (next_text (entry_of due before after.now.console)) }
 {

@@ -1,9 +1,9 @@
 //! Rows that are kept of a sheet while the next chunk is played.
 
 ghost use Rattle.std.specs.Prelude.{◌≡◌, ◌+◌, ◌%◌, ◌<◌, ◌≤◌, IfOk, IfSome, None, Some, drop, if◌then◌else◌, length, true};
-ghost use Rattle.sheet.specs.Grid.{IsUsed, is_touched, row_at};
+ghost use Rattle.sheet.specs.Grid.{AreMarked as MarksTell, IsUsed, is_touched, row_at};
 ghost use Rattle.xterm_page.specs.Entries.{line_of};
-ghost use Rattle.xterm_page.specs.Parts.{AreLines, AreMarked, AreTold, AreWide, KeptAll, MovedUp, is_renewed, renewed, renewed_of};
+ghost use Rattle.xterm_page.specs.Parts.{AreLines, AreMarked, AreWide, KeptAll, MovedUp, is_renewed, renewed, renewed_of};
 ghost use Rattle.xterm_page.specs.Same.{row_number, same_row};
 
 use crate::same::row_number;
@@ -190,10 +190,10 @@ fn renewed_line(
 ) -> Option<Renewed>
     requires low { 1 ≤ line }
     requires high { line ≤ screen.now.picture.lines }
-    requires touched { is_touched screen.now.touched line ≡ true }
+    requires touched { is_touched screen.now.origins line ≡ true }
     requires rows { length rows.now ≡ screen.now.picture.lines }
     requires marked { AreMarked rows.now marked marks.now }
-    ensures { result ≡ (if is_renewed screen.now.touched (row_at rows.now line)
+    ensures { result ≡ (if is_renewed screen.now.origins (row_at rows.now line)
         (row_at screen.now.picture.rows line) line
         then Some (renewed_of screen.now.picture.lines rows.now (row_at screen.now.picture.rows line))
         else None) }
@@ -213,12 +213,12 @@ fn renewed_line(
 fn has_moved(rows: &[KeptRow], screen: &Screen, line: u16, guess: usize) -> bool
     requires low { 1 ≤ line }
     requires high { line ≤ screen.now.picture.lines }
-    requires touched { is_touched screen.now.touched line ≡ true }
+    requires touched { is_touched screen.now.origins line ≡ true }
     requires rows { length rows.now ≡ screen.now.picture.lines }
     ensures within { result ≡ true → guess < length rows.now }
     ensures same { result ≡ true → same_row (row_at rows.now (guess + 1))
         (row_at screen.now.picture.rows line) ≡ true }
-    ensures renewed { result ≡ true → is_renewed screen.now.touched (row_at rows.now line)
+    ensures renewed { result ≡ true → is_renewed screen.now.origins (row_at rows.now line)
         (row_at screen.now.picture.rows line) line ≡ true }
 {
     if rows.len() <= guess {
@@ -282,7 +282,7 @@ pub(crate) fn changed_rows(
     screen: &Screen,
 ) -> Result<Vec<(u16, Renewed)>, AllocError>
     requires { length rows.now ≡ screen.now.picture.lines }
-    ensures changed { IfOk result (λ changed. changed.items ≡ renewed screen.now.touched
+    ensures changed { IfOk result (λ changed. changed.items ≡ renewed screen.now.origins
         screen.now.picture.lines rows.now screen.now.picture.rows) }
     ensures lines { IfOk result (λ changed. AreLines screen.now.picture.lines changed.items) }
 {
@@ -327,8 +327,8 @@ fn shift_by(rows: &[KeptRow], renewed: Renewed, line: u16, shift: usize) -> usiz
 fn is_renewed(row: &KeptRow, screen: &Screen, line: u16) -> bool
     requires low { 1 ≤ line }
     requires high { line ≤ screen.now.picture.lines }
-    requires touched { is_touched screen.now.touched line ≡ true }
-    ensures { result ≡ is_renewed screen.now.touched row.now
+    requires touched { is_touched screen.now.origins line ≡ true }
+    ensures { result ≡ is_renewed screen.now.origins row.now
         (row_at screen.now.picture.rows line) line }
 {
     !row.is_same(screen.row(line), screen.used(line))
@@ -359,10 +359,10 @@ fn source_of(changed: &[(u16, Renewed)], at: usize, last: usize) -> Option<usize
 pub(crate) fn catch_up(rows: &mut [KeptRow], changed: &[(u16, Renewed)], screen: &Screen)
     requires rows { length rows.old ≡ screen.now.picture.lines }
     requires lines { AreLines screen.now.picture.lines changed.now }
-    requires changed { changed.now ≡ renewed screen.now.touched screen.now.picture.lines rows.old
+    requires changed { changed.now ≡ renewed screen.now.origins screen.now.picture.lines rows.old
         screen.now.picture.rows }
     ensures { AreWide screen.now.picture.lines screen.now.picture.columns rows.old
-        → AreTold rows.old screen.now.touched screen.now.picture.rows
+        → MarksTell rows.old screen.now.origins screen.now.picture.rows
         → KeptAll screen.now.picture.lines screen.now.picture.columns rows.new
         screen.now.picture.rows }
 {

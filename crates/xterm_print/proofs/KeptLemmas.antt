@@ -1,5 +1,6 @@
 -- Rows that are kept, and which of them another sheet changes.
-use Rattle.std.proofs.Common.{◌≡◌, ◌≢◌, ℕ, zero, suc, ◌+◌, ◌-◌, ◌<◌, ◌≤◌, Bool, true, false, not, List, [], ◌∷◌, ◌++◌, length, get_or, set, filter, cond, ap, sym, ◌∙◌, subst, arith, add-zero, add-one, append-nil, length-append, inl, inr, get_or-set_same, get_or-set_other}
+use Rattle.std.proofs.Common.{◌≡◌, ◌≢◌, ℕ, zero, suc, ◌+◌, ◌-◌, ◌<◌, ◌≤◌, Bool, true, false, not, List, [], ◌∷◌, ◌++◌, length, get_or, set, filter, cond, refl, ap, ap₂, sym, ◌∙◌, subst, arith, add-zero, add-one, append-nil, length-append, inl, inr, get_or-set_same, get_or-set_other}
+use Rattle.std.specs.Prelude.{◌&&◌}
 use Rattle.std.proofs.lemmas.Bool.{cases_eq}
 use Rattle.std.proofs.lemmas.List.{get_or_append_left, get_or_default}
 use Rattle.std.proofs.lemmas.List.Elements.{filter-append}
@@ -18,7 +19,7 @@ use Rattle.xterm_print.specs.Kept.{FollowAll, Follows}
 same_cells : IsEquivalence same_cell
 same_cells = and_equiv (on_equiv text_of nat_eq_equiv) (on_equiv style_of nat_eq_equiv)
 
-same_rows : IsEquivalence same_row
+pub same_rows : IsEquivalence same_row
 same_rows = lists_equiv same_cells
 
 -- a row is the same as itself
@@ -47,7 +48,7 @@ not_changed before after line same =
 
 -- ---- rows by line
 
-row_is : (rows : List (List Cell)) (line : ℕ) → 1 ≤ line → row_at rows line ≡ get_or rows (line - 1) []
+pub row_is : (rows : List (List Cell)) (line : ℕ) → 1 ≤ line → row_at rows line ≡ get_or rows (line - 1) []
 unfolding nth
 row_is rows zero low = absurd (omega (arith, low))
 row_is rows (suc k) low = let same : suc k - 1 ≡ k = omega arith in ap (λ n. get_or rows n []) (sym same)
@@ -122,3 +123,26 @@ passing_none p n (suc more) none =
     ap (λ m. filter p (range_with_len 1 m)) next ∙ ap (filter p) (range_more 1 (n + more)) ∙ filter-append p (range_with_len 1 (n + more)) (last ∷ [])
     ∙ ap (λ b. filter p (range_with_len 1 (n + more)) ++ cond b (last ∷ []) []) (none last (omega arith) (omega arith)) ∙ append-nil (filter p (range_with_len 1 (n + more)))
     ∙ passing_none p n more (λ k low high. none k low (omega (arith, high)))
+
+and_false : (b : Bool) → (b && false) ≡ false
+and_false true = refl
+and_false false = refl
+
+-- rows of different lengths aren't the same
+pub other_lengths : (one other : List Cell) → (length one ≡ length other → ⊥) → false ≡ same_row one other
+other_lengths [] [] apart = absurd (apart refl)
+other_lengths [] (b ∷ other) apart = refl
+other_lengths (a ∷ one) [] apart = refl
+other_lengths (a ∷ one) (b ∷ other) apart =
+    sym (and_false (same_cell a b)) ∙ ap (λ t. same_cell a b && t) (other_lengths one other (λ same. apart (ap suc same)))
+
+-- where some lines differ, so do the rows
+pub filter_none : (p : ℕ → Bool) → ((k : ℕ) → p k ≡ false) → (xs : List ℕ) → filter p xs ≡ []
+filter_none p none [] = refl
+filter_none p none (x ∷ xs) = rw (none x) (filter_none p none xs)
+
+pub some_differ : (before after : List (List Cell)) (line : ℕ) (changed : List ℕ) → changed ≡ filter (is_changed before after) (range_with_len 1 (line - 1))
+    → 0 < length changed → after ≡ before → ⊥
+some_differ before after line changed is some same =
+    let none = filter_none (is_changed before after) (λ k. sym (not_changed before after k (ap (λ rows. row_at rows k) same))) (range_with_len 1 (line - 1)) in
+    omega (arith, some, ap length is, ap length none)

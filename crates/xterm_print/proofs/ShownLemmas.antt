@@ -2,14 +2,14 @@
 use Rattle.std.proofs.Common.{◌≡◌, ℕ, ◌≤◌, List, ◌++◌, length, take, drop, ap, sym, ◌∙◌, subst, arith, append-nil}
 use Rattle.std.proofs.lemmas.List.{drop_all, take_all}
 use Rattle.sheet.specs.Cells.{Cell}
-use Rattle.sheet.specs.Grid.{is_touched, row_at}
-use Rattle.xterm_screen.specs.Picture.{Picture, ScreenState, Sound, Told as ScreenTold}
+use Rattle.sheet.specs.Grid.{AreMarked}
+use Rattle.xterm_screen.specs.Picture.{Picture, ScreenState, Sound, Tells as ScreenTells}
 use Rattle.xterm_term.specs.declared.measure.Size.{Size}
 use Rattle.standings.specs.Rows.{Row}
 use Rattle.xterm_term.specs.Console.{IsSafe}
 use Rattle.xterm_term.specs.Size.{IsSize}
 use Rattle.xterm_term.specs.Law.{SizeStays, StaysSafe}
-use Rattle.xterm_term.specs.Seen.{IsTerminal, Seen, Shows, Told}
+use Rattle.xterm_term.specs.Seen.{IsTerminal, Seen, Shows, Tells}
 use Rattle.xterm_term.specs.Term.{play, reset_term}
 use Rattle.xterm_print.specs.ChangeLines.{changed_lines, rows_by}
 use Rattle.xterm_print.specs.Kept.{AreKept, FollowAll}
@@ -34,10 +34,11 @@ shown law p terminal size bytes is shows =
     }
 
 -- its screen is told against what it is told against itself
-pub screen_told : (s : ScreenState) (terminal : Seen) (before : List (List Cell)) → s.picture ≡ terminal.console.picture → s.touched ≡ terminal.touched
-    → Told before terminal → ScreenTold before s
-screen_told s terminal before is marks told = λ line untouched.
-    ap (λ (p : Picture). row_at p.rows line) is ∙ told line (sym (ap (λ touched. is_touched touched line) marks) ∙ untouched)
+pub screen_told : (s : ScreenState) (terminal : Seen) (before : List (List Cell)) → s.picture ≡ terminal.console.picture → s.origins ≡ terminal.origins
+    → Tells before terminal → ScreenTells before s
+screen_told s terminal before is came tells =
+    subst (λ (rows : List (List Cell)). AreMarked before s.origins rows) (sym (ap (λ (p : Picture). p.rows) is))
+    (subst (λ (origins : List ℕ). AreMarked before origins terminal.console.picture.rows) (sym came) tells)
 
 -- rows that are kept follow those of before, as many as the picture has
 followed : (p : Picture) (size : Size) (after before : List ℕ) (kept : List (List Cell)) → IsShown p size after → AreKept size kept before

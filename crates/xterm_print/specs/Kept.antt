@@ -1,5 +1,5 @@
 -- Private: rows that were kept of a sheet.
-use Rattle.std.specs.Prelude.{◌≡◌, ℕ, ◌≤◌, true, List, length}
+use Rattle.std.specs.Prelude.{◌≡◌, ℕ, ◌<◌, ◌≤◌, true, List, length}
 use Rattle.sheet.specs.Cells.{Cell}
 use Rattle.sheet.specs.Grid.{row_at}
 use Rattle.xterm_term.specs.declared.measure.Size.{Size}
@@ -14,6 +14,10 @@ pub record Follows (width : ℕ) (row other : List Cell) : Type 0 where
 pub record FollowAll (height width : ℕ) (rows others : List (List Cell)) : Type 0 where
   pub lines : length rows ≡ height
   pub row : (line : ℕ) → 1 ≤ line → line ≤ height → Follows width (row_at rows line) (row_at others line)
+
+-- of two lists of rows those from one line to before another are the same, and have so many columns
+abbrev pub FollowLines : ℕ → ℕ → ℕ → List (List Cell) → List (List Cell) → Type 0
+FollowLines from to width rows others = (line : ℕ) → from ≤ line → line < to → Follows width (row_at rows line) (row_at others line)
 
 -- they are those of the sheet that is shown once these bytes were played
 abbrev pub AreKept : Size → List (List Cell) → List ℕ → Type 0

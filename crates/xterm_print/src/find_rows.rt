@@ -5,7 +5,7 @@ ghost use Rattle.std.specs.List.{flat_map};
 ghost use Rattle.sheet.specs.Cells.{Cell, blank};
 ghost use Rattle.sheet.specs.Grid.{IsUsed, is_touched, row_at};
 ghost use Rattle.standings.specs.Spans.{Stays};
-ghost use Rattle.xterm_screen.specs.Picture.{Told};
+ghost use Rattle.xterm_screen.specs.Picture.{Tells};
 ghost use Rattle.xterm_rows.specs.RowText.{characters, is_space};
 ghost use Rattle.xterm_print.specs.Pieces.{BlankFrom, IsPlain};
 ghost use Rattle.xterm_print.specs.FindRows.{columns_from, ends_in_space, heeds_next, leaves_last, row_read, rows_read};
@@ -50,7 +50,7 @@ pub fn rows_read(alloc: Global, screen: &Screen) -> Result<Vec<Row>, AllocError>
 /// which. Mostly no line was touched, which is seen at once.
 #[inline(always)]
 pub fn read_touched(rows: &mut Vec<Row>, screen: &Screen) -> Result<Span, AllocError>
-    ensures rows { (before : List (List Cell)) → Told before screen.now
+    ensures rows { (before : List (List Cell)) → Tells before screen.now
         → length before ≡ screen.now.picture.lines
         → rows.old.items ≡ rows_read screen.now.picture.lines before
         → OnOk result (rows.new.items ≡ rows_read screen.now.picture.lines screen.now.picture.rows) }
@@ -66,7 +66,7 @@ pub fn read_touched(rows: &mut Vec<Row>, screen: &Screen) -> Result<Span, AllocE
 /// The same of each line.
 #[inline(never)]
 fn read_lines(rows: &mut Vec<Row>, screen: &Screen) -> Result<Span, AllocError>
-    ensures rows { (before : List (List Cell)) → Told before screen.now
+    ensures rows { (before : List (List Cell)) → Tells before screen.now
         → length before ≡ screen.now.picture.lines
         → rows.old.items ≡ rows_read screen.now.picture.lines before
         → OnOk result (rows.new.items ≡ rows_read screen.now.picture.lines screen.now.picture.rows) }
@@ -99,7 +99,7 @@ fn next_unlike(screen: &Screen, line: u16) -> u16
     requires high { line ≤ screen.now.picture.lines + 1 }
     ensures low { line ≤ result }
     ensures high { result ≤ screen.now.picture.lines + 1 }
-    ensures between { (before : List (List Cell)) → Told before screen.now
+    ensures between { (before : List (List Cell)) → Tells before screen.now
         → length before ≡ screen.now.picture.lines → (k : ℕ) → line ≤ k → k < result
         → row_read (row_at before k) (row_at before (k + 1))
         ≡ row_read (row_at screen.now.picture.rows k) (row_at screen.now.picture.rows (k + 1)) }
@@ -120,8 +120,8 @@ fn next_touched(screen: &Screen, line: u16) -> u16
     requires high { line ≤ screen.now.picture.lines + 1 }
     ensures low { line ≤ result }
     ensures high { result ≤ screen.now.picture.lines + 1 }
-    ensures between { (k : ℕ) → line ≤ k → k < result → is_touched screen.now.touched k ≡ false }
-    ensures touched { result ≤ screen.now.picture.lines → is_touched screen.now.touched result ≡ true }
+    ensures between { (k : ℕ) → line ≤ k → k < result → is_touched screen.now.origins k ≡ false }
+    ensures touched { result ≤ screen.now.picture.lines → is_touched screen.now.origins result ≡ true }
 {
     if line <= screen.lines() && screen.is_touched(line) {
         return line;

@@ -1,13 +1,15 @@
 //! Rows that are kept of a sheet, to tell which of them another one changes.
 
-ghost use Rattle.std.specs.Prelude.{◌≡◌, ◌≢◌, ◌≤◌, ℕ, IfOk, List, length, not};
+ghost use Rattle.std.specs.Prelude.{◌≡◌, ◌≢◌, ◌+◌, ◌-◌, ◌<◌, ◌≤◌, ℕ, IfOk, List, filter, length, not};
+ghost use Rattle.std.specs.List.{range_with_len};
 ghost use Rattle.sheet.specs.Cells.{Cell};
 ghost use Rattle.sheet.specs.Grid.{IsUsed, row_at};
-ghost use Rattle.xterm_screen.specs.Picture.{Told};
+ghost use Rattle.xterm_screen.specs.Picture.{Tells};
 ghost use Rattle.xterm_print.specs.ChangeLines.{changed_lines, is_changed, same_row};
-ghost use Rattle.xterm_print.specs.Kept.{FollowAll, Follows};
+ghost use Rattle.xterm_print.specs.Kept.{FollowAll, FollowLines, Follows};
 ghost use Rattle.xterm_print.specs.Same.{Agree};
 
+use crate::moved::{catch_up_moved, moved_up};
 use crate::same::{TOGETHER, same_up_to};
 use arrayvec::ArrayVec;
 use sheet::Cell;
@@ -17,7 +19,7 @@ use std::marker::Model;
 use xterm_screen::Screen;
 
 /// How many rows a sheet has at most.
-const ROWS: usize = MOST_LINES as usize;
+pub(crate) const ROWS: usize = MOST_LINES as usize;
 
 /// A copy of the rows of a sheet, and room for the numbers of those that a chunk changes.
 #[derive(Drop)]
@@ -69,8 +71,27 @@ impl KeptRow {
         Ok(KeptRow { cells, used })
     }
 
+    /// Whether it has the same cells as these, behind so many of which all are blank.
+    pub(crate) fn is_same(&self, cells: &[Cell], used: usize) -> bool
+        requires { IsUsed cells.now used }
+        ensures { result ≡ same_row self.now cells.now }
+    {
+        if self.cells.len() != cells.len() {
+            return false;
+        }
+        let compared = end_of(self.used.max(used), cells.len());
+        same_up_to(self.cells.as_slice(), cells, compared) == compared
+    }
+
+    /// Whether it has the same cells as another one.
+    pub(crate) fn is_same_row(&self, other: &KeptRow) -> bool
+        ensures { result ≡ same_row self.now other.now }
+    {
+        self.is_same(other.cells.as_slice(), other.used)
+    }
+
     /// Becomes the same as these cells, behind so many of which all are blank, and tells whether it wasn't.
-    fn catch_up(&mut self, cells: &[Cell], used: usize) -> bool
+    pub(crate) fn catch_up(&mut self, cells: &[Cell], used: usize) -> bool
         requires { IsUsed cells.now used }
         ensures changed { result ≡ not (same_row self.old cells.now) }
         ensures caught { length self.old ≡ length cells.now
@@ -128,10 +149,10 @@ fn kept_rows(alloc: Global, screen: &Screen) -> Result<Vec<KeptRow>, AllocError>
 /// looked at: the sheet tells that the others are as before.
 pub fn catch_up(rows: &mut [KeptRow], screen: &Screen, changed: &mut ArrayVec<u16, ROWS>)
     requires { length rows.old ≡ screen.now.picture.lines }
-    ensures changed { (before : List (List Cell)) → Told before screen.now
+    ensures changed { (before : List (List Cell)) → Tells before screen.now
         → FollowAll screen.now.picture.lines screen.now.picture.columns rows.old before
         → changed.new.items ≡ changed_lines screen.now.picture.lines before screen.now.picture.rows }
-    ensures caught { (before : List (List Cell)) → Told before screen.now
+    ensures caught { (before : List (List Cell)) → Tells before screen.now
         → FollowAll screen.now.picture.lines screen.now.picture.columns rows.old before
         → FollowAll screen.now.picture.lines screen.now.picture.columns rows.new
         screen.now.picture.rows }
@@ -143,14 +164,49 @@ pub fn catch_up(rows: &mut [KeptRow], screen: &Screen, changed: &mut ArrayVec<u1
     while line <= lines {
         // Where a line was touched, the next one mostly was too: the others are looked for in blocks.
         if screen.is_touched(line) {
-            if catch_up_line(rows, screen, line) {
-                changed.push(line);
-            }
-            line += 1;
+            line = catch_up_from(rows, screen, line, changed);
         } else {
             line = screen.next_touched(line);
         }
     }
+}
+
+/// The row of a line that was touched follows the one that is shown, and where it moved up, behind a line that differs,
+/// so do those that moved with it; adds the lines that differ, and tells where they end.
+fn catch_up_from(
+    rows: &mut [KeptRow],
+    screen: &Screen,
+    line: u16,
+    changed: &mut ArrayVec<u16, ROWS>,
+) -> u16
+    requires rows { length rows.old ≡ screen.now.picture.lines }
+    requires low { 1 ≤ line }
+    requires high { line ≤ screen.now.picture.lines }
+    requires few { length changed.old.items + 1 ≤ line }
+    ensures low { line < result }
+    ensures high { result ≤ screen.now.picture.lines + 1 }
+    ensures whole { length rows.new ≡ length rows.old }
+    ensures few { length changed.new.items + 1 ≤ result }
+    ensures before { (k : ℕ) → 1 ≤ k → k < line → row_at rows.new k ≡ row_at rows.old k }
+    ensures behind { (k : ℕ) → result ≤ k → row_at rows.new k ≡ row_at rows.old k }
+    ensures changed { (before : List (List Cell)) → Tells before screen.now
+        → FollowLines line result screen.now.picture.columns rows.old before
+        → changed.old.items ≡ filter (is_changed before screen.now.picture.rows) (range_with_len 1 (line - 1))
+        → changed.new.items ≡ filter (is_changed before screen.now.picture.rows) (range_with_len 1 (result - 1)) }
+    ensures caught { (before : List (List Cell)) → Tells before screen.now
+        → FollowLines line result screen.now.picture.columns rows.old before
+        → changed.old.items ≡ filter (is_changed before screen.now.picture.rows) (range_with_len 1 (line - 1))
+        → FollowLines line result screen.now.picture.columns rows.new screen.now.picture.rows }
+{
+    let _cursor = screen.cursor();
+    let shift = moved_up(screen, line);
+    if shift > 0 && !changed.is_empty() {
+        return catch_up_moved(rows, screen, line, shift, changed);
+    }
+    if catch_up_line(rows, screen, line) {
+        changed.push(line);
+    }
+    line + 1
 }
 
 /// Whether the row of a line differs from that of the sheet that is shown, which it then follows.
@@ -160,17 +216,14 @@ fn catch_up_line(rows: &mut [KeptRow], screen: &Screen, line: u16) -> bool
     requires high { line ≤ screen.now.picture.lines }
     ensures whole { length rows.new ≡ length rows.old }
     ensures others { (k : ℕ) → 1 ≤ k → k ≢ line → row_at rows.new k ≡ row_at rows.old k }
-    ensures changed { (before : List (List Cell)) → Told before screen.now
+    ensures changed { (before : List (List Cell)) → Tells before screen.now
         → Follows screen.now.picture.columns (row_at rows.old line) (row_at before line)
         → result ≡ is_changed before screen.now.picture.rows line }
-    ensures caught { (before : List (List Cell)) → Told before screen.now
+    ensures caught { (before : List (List Cell)) → Tells before screen.now
         → Follows screen.now.picture.columns (row_at rows.old line) (row_at before line)
         → Follows screen.now.picture.columns (row_at rows.new line)
         (row_at screen.now.picture.rows line) }
 {
-    if !screen.is_touched(line) {
-        return false;
-    }
     let row = &mut rows[line as usize - 1];
     row.catch_up(screen.row(line), screen.used(line))
 }

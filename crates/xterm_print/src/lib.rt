@@ -7,6 +7,7 @@ mod find_lines;
 mod find_rows;
 mod kept;
 pub mod laws;
+mod moved;
 mod pieces;
 mod plain_print;
 mod rows;

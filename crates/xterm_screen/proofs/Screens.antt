@@ -5,7 +5,7 @@ use Rattle.std.proofs.lemmas.List.{length-set}
 use Rattle.sheet.specs.Cells.{Cell}
 use Rattle.sheet.specs.declared.rendition.Colour.{Colour}
 use Rattle.sheet.specs.declared.rendition.Colour.TheVariants.{Default}
-use Rattle.sheet.specs.Grid.{Grid, aligned as rows_aligned, blank_rows, is_touched, row_at, with_row}
+use Rattle.sheet.specs.Grid.{Grid, aligned as rows_aligned, blank_rows, row_at, with_row}
 use Rattle.xterm_screen.specs.declared.screen.Screen.TheInside.{Inside as Fields}
 use Rattle.sheet.specs.Table.{table, nth}
 use Rattle.xterm_screen.specs.Picture.{Picture, Sound, first_tabs, reset}
@@ -105,7 +105,3 @@ main_left s is x y shown is_x is_y rows columns lines =
     sheets_left s is shown y false (ap length rows ∙ ap (λ (g : Grid). length g.rows) is_x ∙ is.sound.other) (ap (λ (g : Grid). length g.rows) is_y ∙ is.sound.rows)
     (columns ∙ ap (λ (g : Grid). g.columns) is_x ∙ is.other_columns) (lines ∙ ap (λ (g : Grid). g.lines) is_x ∙ is.other_lines)
     (ap (λ (g : Grid). g.columns) is_y ∙ is.shown_columns) (ap (λ (g : Grid). g.lines) is_y ∙ is.shown_lines)
-
--- a sheet of which all lines are touched tells nothing
-pub all_told : (lines : ℕ) (rows before : List (List Cell)) (line : ℕ) → is_touched (table lines (λ _. true)) line ≡ false → row_at rows line ≡ row_at before line
-all_told lines rows before line untouched = let there = nth_same true lines line in absurd (cc)

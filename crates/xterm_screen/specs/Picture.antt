@@ -2,7 +2,7 @@
 use Rattle.std.specs.Prelude.{◌≡◌, ℕ, ◌≤◌, ◌%◌, Bool, true, false, List, length, nat_lt, ◌==◌, ◌&&◌}
 use Rattle.sheet.specs.Cells.{Cell, cell_at}
 use Rattle.sheet.specs.declared.rendition.Colour.TheVariants.{Default}
-use Rattle.sheet.specs.Grid.{blank_rows, is_touched, row_at}
+use Rattle.sheet.specs.Grid.{AreMarked, AreTold, blank_rows, row_at}
 use Rattle.sheet.specs.Table.{table}
 
 pub record Picture : Type 0 where
@@ -26,23 +26,23 @@ pub record Picture : Type 0 where
   -- whether a tab stops at each column
   pub tabs : List Bool
 
--- a screen: its picture, and for each line of the sheet that is shown whether it was touched since that was last
--- cleared
+-- a screen: its picture, and for each line of the sheet that is shown the one whose row it has, as rows stood when the
+-- marks were last cleared; 0 where that isn't known
 pub record ScreenState : Type 0 where
   pub picture : Picture
-  pub touched : List Bool
+  pub origins : List ℕ
 
--- each line that wasn't touched since that was last cleared has the row of before (ours)
+-- each line whose origin is known has the row that this one had before (ours)
 abbrev pub Told : List (List Cell) → ScreenState → Type 0
-Told before s = (line : ℕ) → is_touched s.touched line ≡ false → row_at s.picture.rows line ≡ row_at before line
+Told before s = AreTold before s.origins s.picture.rows
+
+-- its marks tell what of the rows of before it has (ours)
+abbrev pub Tells : List (List Cell) → ScreenState → Type 0
+Tells before s = AreMarked before s.origins s.picture.rows
 
 -- whatever rows a screen is told against, it is then too (ours)
 abbrev pub KeepsTold : ScreenState → ScreenState → Type 0
 KeepsTold s t = (before : List (List Cell)) → Told before s → Told before t
-
--- all lines are touched (ours)
-abbrev pub all_touched : ℕ → List Bool
-all_touched lines = table lines (λ _. true)
 
 -- the cell at a line and a column of the sheet that is shown
 abbrev pub cell : Picture → ℕ → ℕ → Cell

@@ -19,7 +19,7 @@ picture_of s = record {
 }
 
 abbrev pub state_of : Fields → ScreenState
-state_of s = record { picture = picture_of s; touched = s.shown.touched }
+state_of s = record { picture = picture_of s; origins = s.shown.origins }
 
 -- the picture is sound, and both sheets have the size of the screen
 pub record IsScreen (s : Fields) : Type 0 where

@@ -2,7 +2,7 @@
 
 ghost use Rattle.std.specs.Prelude.{◌≡◌, ℕ, ◌+◌, ◌<◌, ◌≤◌, Bool, IfOk, List, false, if◌then◌else◌, length, true};
 ghost use Rattle.sheet.specs.Cells.{Cell};
-ghost use Rattle.sheet.specs.Grid.{IsUsed, is_touched, row_at};
+ghost use Rattle.sheet.specs.Grid.{IsUsed, is_touched, origin_of, row_at};
 ghost use Rattle.sheet.specs.Halves.{Whole};
 ghost use Rattle.xterm_screen.specs.Picture.{KeepsTold, Sound, Told, first_tabs, reset};
 ghost use Rattle.xterm_screen.specs.Sheets.{main_rows};
@@ -25,7 +25,7 @@ use std::alloc::{AllocError, Global};
 use std::marker::Model;
 
 /// Two sheets of a size that never changes, of which one is shown, with a cursor, a pending wrap, margins and tab
-/// stops. Contracts see a `ScreenState`: the picture, told by line and column, and which lines were touched.
+/// stops. Contracts see a `ScreenState`: the picture, told by line and column, and where its rows came from.
 #[derive(Debug, Drop)]
 pub struct Screen {
     shown: Sheet,
@@ -54,7 +54,7 @@ impl Model for Screen {
 }
 
 impl Screen {
-    /// The initial screen: both sheets blank, the main one shown, tab stops at 9, 17 and so on. All lines are touched.
+    /// The initial screen: both sheets blank, the main one shown, tab stops at 9, 17 and so on. No line's origin is known.
     pub fn new(alloc: Global, columns: u16, lines: u16) -> Result<Self, AllocError>
         requires columns_low { LEAST_COLUMNS ≤ columns }
         requires columns_high { columns ≤ MOST_COLUMNS }
@@ -256,32 +256,42 @@ impl Screen {
         self.alternate
     }
 
-    /// Whether a line of the sheet that is shown was touched since that was last cleared.
+    /// The line of which this one of the sheet that is shown has the row, as rows stood when the marks were last cleared;
+    /// 0 where that isn't known, as the row was written since.
+    pub fn origin(&self, line: u16) -> u16
+        requires low { 1 ≤ line }
+        requires high { line ≤ self.now.picture.lines }
+        ensures { result ≡ origin_of self.now.origins line }
+    {
+        self.shown.origin(line)
+    }
+
+    /// Whether a line of the sheet that is shown was touched since the marks were last cleared.
     pub fn is_touched(&self, line: u16) -> bool
         requires low { 1 ≤ line }
         requires high { line ≤ self.now.picture.lines }
-        ensures { result ≡ is_touched self.now.touched line }
+        ensures { result ≡ is_touched self.now.origins line }
     {
         self.shown.is_touched(line)
     }
 
-    /// Whether a line of the sheet that is shown was touched since that was last cleared.
+    /// Whether a line of the sheet that is shown was touched since the marks were last cleared.
     pub fn any_touched(&self) -> bool
         ensures { result ≡ false → (line : ℕ) → 1 ≤ line → line ≤ self.now.picture.lines
-            → is_touched self.now.touched line ≡ false }
+            → is_touched self.now.origins line ≡ false }
     {
         self.shown.any_touched()
     }
 
-    /// The first line from one on of the sheet that is shown that was touched since that was last cleared; one behind
-    /// the last where none was.
+    /// The first line from one on of the sheet that is shown that was touched since the marks were last cleared; one
+    /// behind the last where none was.
     pub fn next_touched(&self, line: u16) -> u16
         requires low { 1 ≤ line }
         requires high { line ≤ self.now.picture.lines + 1 }
         ensures low { line ≤ result }
         ensures high { result ≤ self.now.picture.lines + 1 }
-        ensures between { (k : ℕ) → line ≤ k → k < result → is_touched self.now.touched k ≡ false }
-        ensures touched { result ≤ self.now.picture.lines → is_touched self.now.touched result ≡ true }
+        ensures between { (k : ℕ) → line ≤ k → k < result → is_touched self.now.origins k ≡ false }
+        ensures touched { result ≤ self.now.picture.lines → is_touched self.now.origins result ≡ true }
     {
         self.shown.next_touched(line)
     }

@@ -51,7 +51,7 @@ module _ (decides : SeenDecides) (stays : SizeStays) (law : MakesAnyThis) where
   -- something shows each term that comes of a reset one
   viewed : (size : Size) (bytes : List ℕ) → (seen : Seen) × Shows seen (after size bytes)
   viewed size bytes =
-      let start : Seen = record { console = reset_console size.columns size.lines; state = Ground; character = []; touched = [] } in
+      let start : Seen = record { console = reset_console size.columns size.lines; state = Ground; character = []; origins = [] } in
       let x = reset_term size.columns size.lines in
       let shows : Shows start x = record { console = refl; state = shows_none Ansi; character = refl } in
       let there = (decides start x x bytes shows shows).0 in

@@ -135,7 +135,7 @@ module _ (laws : LawsBelow) where
   seen_decides seen x y (byte ∷ bytes) shows_x shows_y =
       let alike = alike_at seen x y byte shows_x shows_y in
       let o : Outcome = outcome_at y byte in
-      let next : Seen = record { console = o.console; state = alike.state.0; character = o.character; touched = [] } in
+      let next : Seen = record { console = o.console; state = alike.state.0; character = o.character; origins = [] } in
       let rest = seen_decides next (step x byte) (step y byte) bytes
       (record { console = alike.console; state = alike.state.1; character = alike.character })
       (record { console = refl; state = alike.state.2; character = refl }) in

@@ -7,8 +7,8 @@ use Rattle.xterm_term.specs.Term.{Term}
 use Rattle.xterm_term.proofs.Told.{seen}
 
 -- another console that is safe, and other bytes of a character
-pub changed_terminal : {touched : List Bool} (before : Seen) (t : Console) (character : List ℕ) → IsTerminal before → IsSafe t
-    → IsTerminal (seen touched t before.state character)
+pub changed_terminal : {origins : List ℕ} (before : Seen) (t : Console) (character : List ℕ) → IsTerminal before → IsSafe t
+    → IsTerminal (seen origins t before.state character)
 changed_terminal before t character is safe =
     let x = is.term.0 in
     let shows = is.term.1 in
@@ -21,15 +21,15 @@ changed_terminal before t character is safe =
     }
 
 -- it shows the term with these
-pub changed_shows : {touched : List Bool} (before now_ : Seen) (x : Term) (change : Console → Console) (t : Console) → before ≡ now_ → Shows now_ x
-    → t ≡ change before.console → Shows (seen touched t before.state before.character) (record x { console = change x.console })
+pub changed_shows : {origins : List ℕ} (before now_ : Seen) (x : Term) (change : Console → Console) (t : Console) → before ≡ now_ → Shows now_ x
+    → t ≡ change before.console → Shows (seen origins t before.state before.character) (record x { console = change x.console })
 changed_shows before now_ x change t same shows told =
     let inside : Shows before x = subst (λ (s : Seen). Shows s x) (sym same) shows in
     record { console = ap change inside.console ∙ sym told; state = inside.state; character = inside.character }
 
-pub cut_shows : {touched : List Bool} (before now_ : Seen) (x : Term) (change : Console → Console) (t : Console) (character : List ℕ) → before ≡ now_
+pub cut_shows : {origins : List ℕ} (before now_ : Seen) (x : Term) (change : Console → Console) (t : Console) (character : List ℕ) → before ≡ now_
     → Shows now_ x → t ≡ change before.console → character ≡ []
-    → Shows (seen touched t before.state character) (record x { console = change x.console; character = [] })
+    → Shows (seen origins t before.state character) (record x { console = change x.console; character = [] })
 cut_shows before now_ x change t character same shows told none =
     let inside : Shows before x = subst (λ (s : Seen). Shows s x) (sym same) shows in
     record { console = ap change inside.console ∙ sym told; state = inside.state; character = sym none }

@@ -128,13 +128,13 @@ here : {before now_ : Seen} {t : Console} {bytes : List ℕ} → before ≡ now_
 here {before} {now_} {t} {bytes} same brings = subst (λ (s : Seen). Brings s.console t bytes) same brings
 
 module _ (laws : LawsBelow) where
-  pub brought : {touched : List Bool} (before now_ : Seen) (x : Term) (bytes : List ℕ) (t : Console) → before ≡ now_ → Shows now_ x → now_.state ≡ Ground
-      → now_.character ≡ [] → Brings before.console t bytes → Shows (seen touched t before.state before.character) (play x bytes)
-  brought {touched} before now_ x bytes t same shows state character brings =
+  pub brought : {origins : List ℕ} (before now_ : Seen) (x : Term) (bytes : List ℕ) (t : Console) → before ≡ now_ → Shows now_ x → now_.state ≡ Ground
+      → now_.character ≡ [] → Brings before.console t bytes → Shows (seen origins t before.state before.character) (play x bytes)
+  brought {origins} before now_ x bytes t same shows state character brings =
       let played = ap (λ (y : Term). play y bytes) (at_ground laws now_ x shows state character) ∙ (here same brings).played x.reports in
       let before_state : before.state ≡ Ground = ap (λ (s : Seen). s.state) same ∙ state in
       let before_character : before.character ≡ [] = ap (λ (s : Seen). s.character) same ∙ character in
-      subst (Shows (seen touched t before.state before.character)) (sym played)
+      subst (Shows (seen origins t before.state before.character)) (sym played)
       (record {
         console = refl;
         state = laws.ground_is_empty.0 Ansi ∙ ap (λ (s : ParserState). Some s) (sym before_state);
@@ -146,11 +146,11 @@ module _ (laws : LawsBelow) where
   brought_silent before now_ x bytes t same shows state character brings =
       ap (λ (y : Term). sent y bytes) (at_ground laws now_ x shows state character) ∙ (here same brings).sends x.reports
 
-  pub brought_terminal : {touched : List Bool} (before now_ : Seen) (bytes : List ℕ) (t : Console) → before ≡ now_ → IsTerminal before → now_.state ≡ Ground
-      → now_.character ≡ [] → Brings before.console t bytes → IsTerminal (seen touched t before.state before.character)
-  brought_terminal {touched} before now_ bytes t same is state character brings =
+  pub brought_terminal : {origins : List ℕ} (before now_ : Seen) (bytes : List ℕ) (t : Console) → before ≡ now_ → IsTerminal before → now_.state ≡ Ground
+      → now_.character ≡ [] → Brings before.console t bytes → IsTerminal (seen origins t before.state before.character)
+  brought_terminal {origins} before now_ bytes t same is state character brings =
       let x = is.term.0 in
-      let after = brought {touched = touched} before now_ x bytes t same (subst (λ (s : Seen). Shows s x) same is.term.1) state character brings in
+      let after = brought {origins = origins} before now_ x bytes t same (subst (λ (s : Seen). Shows s x) same is.term.1) state character brings in
       record {
         safe = subst IsSafe after.console (safe_play laws x bytes (subst IsSafe (sym is.term.1.console) is.safe));
         term = (play x bytes, after);
@@ -161,5 +161,5 @@ module _ (laws : LawsBelow) where
   brought_size before now_ bytes t same is state character brings =
       let x = is.term.0 in
       let shows : Shows now_ x = subst (λ (s : Seen). Shows s x) same is.term.1 in
-      let after = brought {touched = []} before now_ x bytes t same shows state character brings in
+      let after = brought {origins = []} before now_ x bytes t same shows state character brings in
       subst (λ (s : Console). SameSize s t) shows.console (subst (SameSize x.console) after.console (size_stays x bytes))

@@ -38,8 +38,8 @@ module _ (laws : LawsBelow) where
   all_safe [] s safe = safe
   all_safe (character ∷ characters) s safe = all_safe characters (put character s) (laws.puts_keep_safe character s safe)
 
-  pub run_terminal : {touched : List Bool} (before : Seen) (run : List ℕ) (t : Console) → IsTerminal before → t ≡ all_put (map (character_for before.console) run) before.console
-      → IsTerminal (seen touched t before.state before.character)
+  pub run_terminal : {origins : List ℕ} (before : Seen) (run : List ℕ) (t : Console) → IsTerminal before → t ≡ all_put (map (character_for before.console) run) before.console
+      → IsTerminal (seen origins t before.state before.character)
   run_terminal before run t is told =
       let x = is.term.0 in
       let shows = is.term.1 in
@@ -64,18 +64,18 @@ module _ (laws : LawsBelow) where
       ap (λ (y : Term). sent y run) (at_ground now_ x shows state character)
       ∙ (run_played laws.graphic_is_shown now_.console x.reports run graphic title).1
 
-  pub run_shown : {touched : List Bool} (before now_ : Seen) (x : Term) (run : List ℕ) (t : Console) → before ≡ now_ → Shows now_ x → list_all is_graphic run ≡ true
+  pub run_shown : {origins : List ℕ} (before now_ : Seen) (x : Term) (run : List ℕ) (t : Console) → before ≡ now_ → Shows now_ x → list_all is_graphic run ≡ true
       → now_.console.title ≡ false → now_.state ≡ Ground → now_.character ≡ []
       → t ≡ all_put (map (character_for before.console) run) before.console
-      → Shows (seen touched t before.state before.character) (play x run)
-  run_shown {touched} before now_ x run t same shows graphic title state character told =
+      → Shows (seen origins t before.state before.character) (play x run)
+  run_shown {origins} before now_ x run t same shows graphic title state character told =
       let played = ap (λ (y : Term). play y run) (at_ground now_ x shows state character)
       ∙ (run_played laws.graphic_is_shown now_.console x.reports run graphic title).0 in
       let console : all_put (map (character_for now_.console) run) now_.console ≡ t =
       ap (λ (s : Seen). all_put (map (character_for s.console) run) s.console) (sym same) ∙ sym told in
       let before_state : before.state ≡ Ground = ap (λ (s : Seen). s.state) same ∙ state in
       let before_character : before.character ≡ [] = ap (λ (s : Seen). s.character) same ∙ character in
-      subst (Shows (seen touched t before.state before.character)) (sym played)
+      subst (Shows (seen origins t before.state before.character)) (sym played)
       (record {
         console = console;
         state = laws.ground_is_empty.0 Ansi ∙ ap (λ (s : ParserState). Some s) (sym before_state);

@@ -35,7 +35,7 @@ use Rattle.xterm_term.proofs.ByteKinds.{first, other}
 use Rattle.xterm_term.proofs.Parts.{ground_shown, either_mode}
 use Rattle.xterm_term.proofs.Runs.{all_in_parts, stepped, run_graphic}
 use Rattle.xterm_term.proofs.Stays.{safe_play, size_stays}
-use Rattle.xterm_term.proofs.Told.{seen, shows_touched}
+use Rattle.xterm_term.proofs.Told.{seen, shows_origins}
 
 -- ---- bytes that go on
 
@@ -312,29 +312,29 @@ module _ (laws : LawsBelow) where
       let done = shown s x bytes (Some (command_of_token token)) before state t shows title goes tells tt leads is in (done.shows, done.sends)
 
   -- from what the parser says of any pending text
-  pub shows_next : {touched : List Bool} (before now_ : Seen) (x : Term) (bytes : List ℕ) (token : Option Token) (state : ParserState) (t : Console)
+  pub shows_next : {origins : List ℕ} (before now_ : Seen) (x : Term) (bytes : List ℕ) (token : Option Token) (state : ParserState) (t : Console)
       → before ≡ now_ → Shows now_ x → now_.console.title ≡ false → now_.character ≡ [] → GoesOn now_.state bytes
       → ((mode : Mode) (pending : List ℕ) → parser_view mode pending ≡ Some before.state → TellsOf Ansi mode pending bytes token)
       → Leads before.state Ansi bytes state → t ≡ forgotten_if (is_ground_state state) (effect_of token_effect token before.console)
-      → Shows (seen touched t state before.character) (play x bytes) × (sent x bytes ≡ reply_of token_reply token before.console)
+      → Shows (seen origins t state before.character) (play x bytes) × (sent x bytes ≡ reply_of token_reply token before.console)
   shows_next before now_ x bytes token state t same shows title character goes tells leads is =
       let none : before.character ≡ [] = ap (λ (it : Seen). it.character) same ∙ character in
       let inside : Shows before x = subst (λ (it : Seen). Shows it x) (sym same) shows in
       let done = told before.console x bytes token before.state state t
-      (subst (λ (l : List ℕ). Shows (seen [] before.console before.state l) x) none (shows_touched [] before x inside))
+      (subst (λ (l : List ℕ). Shows (seen [] before.console before.state l) x) none (shows_origins [] before x inside))
       (ap (λ (it : Seen). it.console.title) same ∙ title)
       (subst (λ (it : Seen). GoesOn it.state bytes) (sym same) goes) (tells Ansi x.sequence inside.state) leads is in
-      (shows_touched _ _ (play x bytes) (subst (λ (l : List ℕ). Shows (seen [] t state l) (play x bytes)) (sym none) done.0), done.1)
+      (shows_origins _ _ (play x bytes) (subst (λ (l : List ℕ). Shows (seen [] t state l) (play x bytes)) (sym none) done.0), done.1)
 
   -- the terminal stays one
-  pub next_terminal : {touched : List Bool} (before now_ : Seen) (bytes : List ℕ) (token : Option Token) (state : ParserState) (t : Console)
+  pub next_terminal : {origins : List ℕ} (before now_ : Seen) (bytes : List ℕ) (token : Option Token) (state : ParserState) (t : Console)
       → before ≡ now_ → IsTerminal before → now_.console.title ≡ false → now_.character ≡ [] → GoesOn now_.state bytes
       → ((mode : Mode) (pending : List ℕ) → parser_view mode pending ≡ Some before.state → TellsOf Ansi mode pending bytes token)
       → Leads before.state Ansi bytes state → t ≡ forgotten_if (is_ground_state state) (effect_of token_effect token before.console)
-      → IsTerminal (seen touched t state before.character)
-  next_terminal {touched} before now_ bytes token state t same is title character goes tells leads console =
+      → IsTerminal (seen origins t state before.character)
+  next_terminal {origins} before now_ bytes token state t same is title character goes tells leads console =
       let x = is.term.0 in
-      let after = (shows_next {touched = touched} before now_ x bytes token state t same (subst (λ (it : Seen). Shows it x) same is.term.1) title character goes tells leads console).0 in
+      let after = (shows_next {origins = origins} before now_ x bytes token state t same (subst (λ (it : Seen). Shows it x) same is.term.1) title character goes tells leads console).0 in
       record {
         safe = subst IsSafe after.console (safe_play laws x bytes (subst IsSafe (sym is.term.1.console) is.safe));
         term = (play x bytes, after);
@@ -349,12 +349,12 @@ module _ (laws : LawsBelow) where
   next_size before now_ bytes token state t same is title character goes tells leads console =
       let x = is.term.0 in
       let shows : Shows now_ x = subst (λ (it : Seen). Shows it x) same is.term.1 in
-      let after = (shows_next {touched = []} before now_ x bytes token state t same shows title character goes tells leads console).0 in
+      let after = (shows_next {origins = []} before now_ x bytes token state t same shows title character goes tells leads console).0 in
       subst (λ (s : Console). SameSize s t) shows.console (subst (SameSize x.console) after.console (size_stays x bytes))
 
   -- where memory was refused, the parser has gone on alone
-  pub left_terminal : {touched : List Bool} (before : Seen) (bytes : List ℕ) (state : ParserState) (t : Console) → IsTerminal before → t ≡ before.console
-      → Leads before.state Ansi bytes state → IsTerminal (seen touched t state before.character)
+  pub left_terminal : {origins : List ℕ} (before : Seen) (bytes : List ℕ) (state : ParserState) (t : Console) → IsTerminal before → t ≡ before.console
+      → Leads before.state Ansi bytes state → IsTerminal (seen origins t state before.character)
   left_terminal before bytes state t is same leads =
       let x = is.term.0 in
       let shows = is.term.1 in

@@ -19,23 +19,23 @@ use Rattle.xterm_term.proofs.Sizes.{put_keeps_size}
 use Rattle.xterm_term.proofs.ByteKinds.{next, come}
 
 -- parts that are what they are give one value
-abbrev pub seen : List Bool → Console → ParserState → List ℕ → Seen
-seen touched console state character =
-    record { console = console; state = state; character = character; touched = touched }
+abbrev pub seen : List ℕ → Console → ParserState → List ℕ → Seen
+seen origins console state character =
+    record { console = console; state = state; character = character; origins = origins }
 
--- which lines are touched says nothing of what a terminal shows
-pub shows_touched : (touched : List Bool) (before : Seen) (x : Term) → Shows before x → Shows (record before { touched = touched }) x
-shows_touched touched before x shows = record { console = shows.console; state = shows.state; character = shows.character }
+-- where rows came from says nothing of what a terminal shows
+pub shows_origins : (origins : List ℕ) (before : Seen) (x : Term) → Shows before x → Shows (record before { origins = origins }) x
+shows_origins origins before x shows = record { console = shows.console; state = shows.state; character = shows.character }
 
-pub terminal_touched : (touched : List Bool) (before : Seen) → IsTerminal before → IsTerminal (record before { touched = touched })
-terminal_touched touched before is =
-    record { safe = is.safe; term = (is.term.0, shows_touched touched before is.term.0 is.term.1) }
+pub terminal_origins : (origins : List ℕ) (before : Seen) → IsTerminal before → IsTerminal (record before { origins = origins })
+terminal_origins origins before is =
+    record { safe = is.safe; term = (is.term.0, shows_origins origins before is.term.0 is.term.1) }
 
 module _ (laws : LawsBelow) where
-  pub reset_shows : {touched : List Bool} (columns lines : ℕ) → Shows (seen touched (reset_console columns lines) Ground []) (reset_term columns lines)
+  pub reset_shows : {origins : List ℕ} (columns lines : ℕ) → Shows (seen origins (reset_console columns lines) Ground []) (reset_term columns lines)
   reset_shows columns lines = record { console = refl; state = laws.ground_is_empty.0 Ansi; character = refl }
 
-  pub reset_proper : {touched : List Bool} (columns lines : ℕ) → IsSize columns lines → IsTerminal (seen touched (reset_console columns lines) Ground [])
+  pub reset_proper : {origins : List ℕ} (columns lines : ℕ) → IsSize columns lines → IsTerminal (seen origins (reset_console columns lines) Ground [])
   reset_proper columns lines size =
       record { safe = laws.reset_is_safe columns lines size; term = (reset_term columns lines, reset_shows columns lines) }
 
@@ -44,9 +44,9 @@ outcome_same : (shown : Seen) (x : Term) (byte : ℕ) → Shows shown x
     → outcome_at x byte ≡ outcome_of shown.console x.sequence shown.character byte
 outcome_same shown x byte shows = ap₂ (λ (s : Console) (c : List ℕ). outcome_of s x.sequence c byte) shows.console shows.character
 
-pub told_step : {touched : List Bool} (shown : Seen) (x : Term) (byte : ℕ) (s : Console) (state : ParserState) (character : List ℕ) → Shows shown x
+pub told_step : {origins : List ℕ} (shown : Seen) (x : Term) (byte : ℕ) (s : Console) (state : ParserState) (character : List ℕ) → Shows shown x
     → ComesTo (outcome_of shown.console x.sequence shown.character byte) s state character
-    → Shows (seen touched s state character) (step x byte)
+    → Shows (seen origins s state character) (step x byte)
 told_step shown x byte s state character shows comes =
     let same = outcome_same shown x byte shows in
     record {
@@ -60,8 +60,8 @@ pub told_reply : (shown : Seen) (x : Term) (byte : ℕ) → Shows shown x
 told_reply shown x byte shows = ap (λ (o : Outcome). o.reply) (sym (outcome_same shown x byte shows))
 
 -- what is sound shows some term
-pub sound_terminal : {touched : List Bool} (s : Console) (state : ParserState) (character : List ℕ) → IsSound s state
-    → IsTerminal (seen touched s state character)
+pub sound_terminal : {origins : List ℕ} (s : Console) (state : ParserState) (character : List ℕ) → IsSound s state
+    → IsTerminal (seen origins s state character)
 sound_terminal s state character sound = record {
   safe = sound.safe;
   term = (
@@ -125,18 +125,18 @@ broken s t sequence character byte some is console =
 
 -- ---- whole values
 
-seen_same : {touched : List Bool} (s t : Console) (left state : ParserState) (bytes character : List ℕ) → s ≡ t → left ≡ state → bytes ≡ character
-    → seen touched s left bytes ≡ seen touched t state character
+seen_same : {origins : List ℕ} (s t : Console) (left state : ParserState) (bytes character : List ℕ) → s ≡ t → left ≡ state → bytes ≡ character
+    → seen origins s left bytes ≡ seen origins t state character
 seen_same s t left state bytes character same_console same_state same_bytes = cc
 
 module _ (laws : LawsBelow) where
-  pub reset_at : {touched : List Bool} (columns lines : ℕ) (s : Console) (left : ParserState) (bytes : List ℕ) → IsSize columns lines → s ≡ reset_console columns lines
-      → left ≡ Ground → bytes ≡ [] → IsTerminal (seen touched s left bytes)
+  pub reset_at : {origins : List ℕ} (columns lines : ℕ) (s : Console) (left : ParserState) (bytes : List ℕ) → IsSize columns lines → s ≡ reset_console columns lines
+      → left ≡ Ground → bytes ≡ [] → IsTerminal (seen origins s left bytes)
   reset_at columns lines s left bytes size console state character =
       subst IsTerminal (sym (seen_same _ _ _ _ _ _ console state character)) (reset_proper laws columns lines size)
 
-  pub shows_reset : {touched : List Bool} (columns lines : ℕ) (s : Console) (left : ParserState) (bytes : List ℕ) → s ≡ reset_console columns lines
-      → left ≡ Ground → bytes ≡ [] → Shows (seen touched s left bytes) (reset_term columns lines)
+  pub shows_reset : {origins : List ℕ} (columns lines : ℕ) (s : Console) (left : ParserState) (bytes : List ℕ) → s ≡ reset_console columns lines
+      → left ≡ Ground → bytes ≡ [] → Shows (seen origins s left bytes) (reset_term columns lines)
   shows_reset columns lines s left bytes console state character =
       subst (λ (t : Seen). Shows t (reset_term columns lines)) (sym (seen_same _ _ _ _ _ _ console state character)) (reset_shows laws columns lines)
 

@@ -1,12 +1,12 @@
 -- Private: what the fields of a packed terminal stand for (ours).
 use Rattle.xterm_term.specs.declared.terminal.packed.PackedTerminal.TheInside.{Inside as Fields}
 use Rattle.std.specs.Prelude.{◌≡◌}
-use Rattle.xterm_screen.specs.Picture.{all_touched}
+use Rattle.sheet.specs.Grid.{no_origins}
 use Rattle.xterm_term.specs.Seen.{Seen, IsTerminal}
 
--- the same terminal, all lines touched
+-- the same terminal, of which no line's origin is known
 abbrev pub touched_whole : Seen → Seen
-touched_whole seen = record seen { touched = all_touched seen.console.picture.lines }
+touched_whole seen = record seen { origins = no_origins seen.console.picture.lines }
 
 abbrev pub packed_seen : Fields → Seen
 packed_seen t = record {
@@ -22,7 +22,7 @@ packed_seen t = record {
   };
   state = t.parser;
   character = t.decoder;
-  touched = all_touched t.screen.lines;
+  origins = no_origins t.screen.lines;
 }
 
 -- it is some terminal, and of the size that it tells

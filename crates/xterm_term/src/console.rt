@@ -69,7 +69,7 @@ impl Console {
         requires columns { self.old.screen.picture.columns ≡ other.now.screen.picture.columns }
         requires lines { self.old.screen.picture.lines ≡ other.now.screen.picture.lines }
         ensures done { console_of self.new ≡ console_of other.now }
-        ensures touched { self.new.screen.touched ≡ other.now.screen.touched }
+        ensures touched { self.new.screen.origins ≡ other.now.screen.origins }
     {
         self.screen.copy_from(&other.screen);
         self.modes = other.modes;

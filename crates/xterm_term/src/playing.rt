@@ -11,7 +11,7 @@ impl Plays for Terminal {
 
     type Packed = PackedTerminal;
 
-    ghost use Rattle.xterm_term.specs.Seen.{Shows, Told};
+    ghost use Rattle.xterm_term.specs.Seen.{Shows, Tells};
     ghost use Rattle.xterm_term.specs.Term.{play, reset_term, sent as sent_from};
 
     ghost shows = { λ size terminal bytes.
@@ -21,7 +21,7 @@ impl Plays for Terminal {
         Shows packed (play (reset_term size.columns size.lines) bytes) };
 
     ghost told = { λ size terminal bytes.
-        Told (play (reset_term size.columns size.lines) bytes).console.picture.rows terminal };
+        Tells (play (reset_term size.columns size.lines) bytes).console.picture.rows terminal };
 
     ghost fits = { λ size terminal. (terminal.console.picture.columns ≡ size.columns)
         × (terminal.console.picture.lines ≡ size.lines) };
@@ -40,6 +40,7 @@ impl Plays for Terminal {
         Terminal::clear(self);
     }
 
+    #[tactic(auto, using(sheet::proofs::Came::are_marked))]
     fn feed(&mut self, bytes: &[u8], sink: &mut Reports) -> Result<(), OutOfMemory> {
         plays_in_parts();
         self.feed_in_place(bytes, sink)
@@ -49,6 +50,7 @@ impl Plays for Terminal {
         Terminal::pack(self, alloc)
     }
 
+    #[tactic(auto, using(sheet::proofs::Came::are_marked))]
     fn unpack(&mut self, packed: &PackedTerminal) {
         size_stays();
         let size = self.size();

@@ -29,7 +29,7 @@ use vt_parser::{Mode, Parser, ParserState, printable_run};
 use xterm_screen::Screen;
 
 /// A terminal of a size. Contracts see what is seen of it: its picture, modes, rendition, sets and saves, its parser's
-/// state, the bytes of the character that isn't finished, and which lines were touched.
+/// state, the bytes of the character that isn't finished, and where rows came from.
 #[derive(Debug, Drop)]
 pub struct Terminal {
     alloc: Global,
@@ -106,7 +106,7 @@ impl Terminal {
         ensures err { OnErr result (self.new ≡ self.old) }
         ensures err_sink { OnErr result (sink.new ≡ sink.old) }
         ensures size { SameSize self.old.console self.new.console }
-        // Lines that aren't touched then have the rows of before.
+        // Lines whose origins are known then have the rows that these had before.
         ensures told { OnOk result (Told self.old.console.picture.rows self.new) }
     {
         let place = sink.place();
@@ -418,10 +418,10 @@ impl Terminal {
         }
     }
 
-    /// The cells, the cursor, pending wrap, margins and tabs, and which lines were touched.
+    /// The cells, the cursor, pending wrap, margins and tabs, and where rows came from.
     pub fn screen(&self) -> &Screen
         ensures value { result.now.picture ≡ self.now.console.picture }
-        ensures touched { result.now.touched ≡ self.now.touched }
+        ensures touched { result.now.origins ≡ self.now.origins }
         // The cursor is on the sheet, and inside the margins while DECOM is set.
         ensures proper { IsTerminal self.now }
     {

@@ -86,6 +86,48 @@ fn assert_touched(
     Ok(())
 }
 
+// What was fed before, what is fed, and for each line the one whose row it has then, or 0.
+const ORIGINS: &[(&[u8], &[u8], [u16; 6])] = &[
+    (b"", b"", [1, 2, 3, 4, 5, 6]),
+    (b"", b"x", [0, 2, 3, 4, 5, 6]),
+    (b"\x1b[6;1H", b"\n", [2, 3, 4, 5, 6, 0]),
+    // A row that was written before it moved came from nowhere.
+    (b"\x1b[6;1H", b"\nabc\n", [3, 4, 5, 6, 0, 0]),
+    (b"\x1b[3;5r\x1b[5;1H", b"\n", [1, 2, 4, 5, 0, 6]),
+    (b"\x1b[3;5r\x1b[3;1H", b"\x1bM", [1, 2, 0, 3, 4, 6]),
+    (b"\x1b[3;5r", b"\x1b[2T", [1, 2, 0, 0, 3, 6]),
+    (b"\x1b[3;5r\x1b[4;1H", b"\x1b[L", [1, 2, 3, 0, 4, 6]),
+    (b"\x1b[3;5r\x1b[4;1H", b"\x1b[M", [1, 2, 3, 5, 0, 6]),
+    // Rows that come back are the own ones again.
+    (b"\x1b[3;5r", b"\x1b[S\x1b[T", [1, 2, 0, 4, 5, 6]),
+    (b"", b"\x1b[?1049h", [0, 0, 0, 0, 0, 0]),
+    (b"", b"\x1b#8", [0, 0, 0, 0, 0, 0]),
+];
+
+fn assert_origins(
+    rt: &(impl Abort + AllocGlobal),
+    terminal: &Terminal,
+    want: &[u16],
+    what: &[u8],
+) -> Result<(), Fail> {
+    let screen = terminal.screen();
+    let mut origins = Vec::new(rt.alloc());
+    for line in 1..screen.lines() + 1 {
+        origins.push(screen.origin(line))?;
+    }
+    assert_eq!(rt; origins.as_slice(), want, "{}", what.escape_ascii());
+    Ok(())
+}
+
+#[test]
+fn origins(rt: HostRuntime) -> Result<(), Fail> {
+    for (before, bytes, want) in ORIGINS {
+        let left = feed_reset(rt.alloc(), &[*before, *bytes])?;
+        assert_origins(&rt, &left.terminal, want, bytes)?;
+    }
+    Ok(())
+}
+
 #[test]
 fn touched(rt: HostRuntime) -> Result<(), Fail> {
     assert_touched(&rt, ROWS)

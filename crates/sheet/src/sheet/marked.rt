@@ -1,14 +1,29 @@
-//! The next true one of a list of marks, looked for in blocks.
+//! The next line that was touched, looked for in blocks.
 
 ghost use Rattle.std.specs.Prelude.{◌≡◌, ◌+◌, ◌<◌, ◌≤◌, length, map};
 ghost use Rattle.std.specs.Simd.Lanes.{mask_l};
-ghost use Rattle.sheet.specs.Marked.{IsNext};
+ghost use Rattle.sheet.specs.Marked.{IsNext, marks_from, marks_of};
 ghost use Rattle.sheet.specs.Numbers.{bit};
 
+use crate::limits::MOST_LINES;
 use std::simd::prelude::*;
 
 // How many marks are looked at at once.
 const BLOCK: usize = 16;
+
+/// For each line of a block, the first of this number, whether it was touched.
+#[inline(always)]
+fn block_marks(origins: &[u16], first: u16) -> [bool; BLOCK]
+    requires block { length origins.now ≡ BLOCK }
+    requires high { first ≤ MOST_LINES }
+    ensures { result ≡ marks_from first origins.now }
+{
+    let mut marks = [false; BLOCK];
+    for i in 0..BLOCK {
+        marks[i] = origins[i] != first + i as u16;
+    }
+    marks
+}
 
 /// 1 for each true mark of a block, and 0 for the others.
 #[inline(always)]
@@ -49,46 +64,51 @@ fn next_of_block(marks: &[bool], from: usize) -> usize
     }
 }
 
-/// The next true one, a mark at a time.
-fn next_slowly(marks: &[bool], from: usize) -> usize
-    requires { from ≤ length marks.now }
-    ensures { IsNext marks.now from result }
+/// The next line that was touched, a line at a time.
+fn next_slowly(origins: &[u16], from: usize) -> usize
+    requires few { length origins.now ≤ MOST_LINES }
+    requires within { from ≤ length origins.now }
+    ensures { IsNext (marks_of origins.now) from result }
 {
-    for at in from..marks.len() {
-        if marks[at] {
+    for at in from..origins.len() {
+        if origins[at] != at as u16 + 1 {
             return at;
         }
     }
-    marks.len()
+    origins.len()
 }
 
-/// The next true one of less than a block, as one of the block that ends with it.
+/// The next line of less than a block that was touched, as one of the block that ends with it.
 #[inline(always)]
-fn next_of_rest(marks: &[bool], from: usize) -> usize
-    requires within { from ≤ length marks.now }
-    requires few { length marks.now < from + BLOCK }
-    ensures { IsNext marks.now from result }
+fn next_of_rest(origins: &[u16], from: usize) -> usize
+    requires few { length origins.now ≤ MOST_LINES }
+    requires within { from ≤ length origins.now }
+    requires rest { length origins.now < from + BLOCK }
+    ensures { IsNext (marks_of origins.now) from result }
 {
-    if marks.len() < BLOCK {
-        next_slowly(marks, from)
+    if origins.len() < BLOCK {
+        next_slowly(origins, from)
     } else {
-        let start = marks.len() - BLOCK;
-        start + next_of_block(&marks[start..start + BLOCK], from - start)
+        let start = origins.len() - BLOCK;
+        let marks = block_marks(&origins[start..start + BLOCK], start as u16 + 1);
+        start + next_of_block(&marks, from - start)
     }
 }
 
-/// The first true one from one on, or how many there are where none is.
-pub(crate) fn next_mark(marks: &[bool], from: usize) -> usize
-    requires { from ≤ length marks.now }
-    ensures { IsNext marks.now from result }
+/// The first line from one on that was touched, from 0, or how many there are where none was.
+pub(crate) fn next_touched(origins: &[u16], from: usize) -> usize
+    requires few { length origins.now ≤ MOST_LINES }
+    requires within { from ≤ length origins.now }
+    ensures { IsNext (marks_of origins.now) from result }
 {
     let mut at = from;
-    while marks.len() - at >= BLOCK {
-        let bits = bits_of(&marks[at..at + BLOCK]);
+    while origins.len() - at >= BLOCK {
+        let marks = block_marks(&origins[at..at + BLOCK], at as u16 + 1);
+        let bits = bits_of(&marks);
         if bits != 0 {
             return at + bits.trailing_zeros() as usize;
         }
         at += BLOCK;
     }
-    next_of_rest(marks, at)
+    next_of_rest(origins, at)
 }

@@ -6,13 +6,13 @@ ghost use Rattle.sheet.specs.Held.{row_in};
 ghost use Rattle.sheet.specs.Packed.{unpacked};
 ghost use Rattle.sheet.specs.Table.{table};
 
-use super::{Sheet, touch_lines};
+use super::{Sheet, forget_lines};
 use crate::slot::Slot;
 use std::alloc::{AllocError, Global};
 use std::marker::Model;
 
 /// A sheet of which each row is kept up to its last cell that isn't blank in the default colours. Contracts see the
-/// sheet, all of it touched.
+/// sheet, of which no line's origin is known.
 #[derive(Debug, Drop)]
 pub struct PackedSheet {
     columns: u16,
@@ -55,7 +55,7 @@ impl Sheet {
         name_slots(self.order.as_mut_slice());
         restore_slots(self.slots.as_mut_slice(), packed.rows.as_slice());
         let last = self.order.len() + 1;
-        touch_lines(self.touched.as_mut_slice(), 1, last);
+        forget_lines(self.origins.as_mut_slice(), 1, last);
     }
 }
 

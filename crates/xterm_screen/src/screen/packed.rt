@@ -2,7 +2,8 @@
 
 ghost use Rattle.std.specs.Prelude.{◌≡◌, IfOk, List};
 ghost use Rattle.sheet.specs.Cells.{Cell};
-ghost use Rattle.xterm_screen.specs.Picture.{Told, all_touched};
+ghost use Rattle.sheet.specs.Grid.{no_origins};
+ghost use Rattle.xterm_screen.specs.Picture.{Told};
 
 use crate::screen::Screen;
 use sheet::PackedSheet;
@@ -60,12 +61,12 @@ impl Screen {
         })
     }
 
-    /// Becomes a screen of the same size that was packed. It takes no memory, and all lines are touched.
+    /// Becomes a screen of the same size that was packed. It takes no memory, and no line's origin is known.
     pub fn unpack(&mut self, packed: &PackedScreen)
         requires columns { packed.now.columns ≡ self.old.picture.columns }
         requires lines { packed.now.lines ≡ self.old.picture.lines }
         ensures picture { self.new.picture ≡ packed.now }
-        ensures touched { self.new.touched ≡ all_touched packed.now.lines }
+        ensures touched { self.new.origins ≡ no_origins packed.now.lines }
         ensures told { (before : List (List Cell)) → Told before self.new }
     {
         self.shown.unpack(&packed.shown);

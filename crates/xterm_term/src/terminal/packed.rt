@@ -14,7 +14,7 @@ use vt_parser::Parser;
 use xterm_screen::PackedScreen;
 
 /// A terminal of which each row is kept up to its last cell that isn't blank. Contracts see what is seen of the terminal,
-/// all lines touched.
+/// no line's origin known.
 #[derive(Debug, Drop)]
 pub struct PackedTerminal {
     columns: u16,
@@ -83,7 +83,7 @@ impl Terminal {
         })
     }
 
-    /// Becomes the terminal of the same size that was packed, all lines touched.
+    /// Becomes the terminal of the same size that was packed, no line's origin known.
     pub fn unpack(&mut self, packed: &PackedTerminal)
         requires columns { self.old.console.picture.columns ≡ packed.now.console.picture.columns }
         requires lines { self.old.console.picture.lines ≡ packed.now.console.picture.lines }

@@ -18,9 +18,9 @@ returns g c = λ before tells is.
     let joins = c.gives_join.ensures in
     let told = subst (Wrote g.W.Write.contents c.put_front.new.writer c.put_front.new.held.items c.put_lines.new.writer c.put_lines.new.held.items)
     (ap (λ (p : Picture). flat_map (renewed_text p.rows) c.args.changed.now) c.screen.ensures.value
-    ∙ ap (flat_map (renewed_text after.picture.rows)) is ∙ lines_renewed seen.touched after.picture.lines before after.picture.rows) c.put_lines.ensures in
+    ∙ ap (flat_map (renewed_text after.picture.rows)) is ∙ lines_renewed seen.origins after.picture.lines before after.picture.rows) c.put_lines.ensures in
     let all = wrote_both c.put_byte.ensures (wrote_both told (wrote_both c.put_front.ensures c.put.ensures)) in
-    let text = (((44 ∷ 10 ∷ 91 ∷ []) ++ front_text c.args.due after) ++ lines_text seen.touched after.picture.lines before after.picture.rows) ++ 93 ∷ [] in
+    let text = (((44 ∷ 10 ∷ 91 ∷ []) ++ front_text c.args.due after) ++ lines_text seen.origins after.picture.lines before after.picture.rows) ++ 93 ∷ [] in
     let opened = subst (λ (x : List ℕ). Wrote g.W.Write.contents c.args.writer.now x c.put_byte.new.writer c.put_byte.new.held.items text) c.new-held.ensures all in
-    subst (Gave g.W.Write.contents c.args.writer.now c.let_out.new.writer) (sym (entry_is seen.touched c.args.due before after tells))
+    subst (Gave g.W.Write.contents c.args.writer.now c.let_out.new.writer) (sym (entry_is seen.origins c.args.due before after tells))
     (gave_all joins.both joins.nothing _ _ _ _ _ opened c.let_out.ensures.gave)

@@ -17,11 +17,11 @@ use Rattle.xterm_page.proofs.kept.catch_up.Goals.{in-Some, in-None}
 
 pub copy_from-requires : goal.copy_from-requires
 copy_from-requires c =
-    let touched = c.args.screen.now.touched in
+    let origins = c.args.screen.now.origins in
     let lines = c.args.screen.now.picture.lines in
     let before = c.args.rows.now in
     let after = c.args.screen.now.picture.rows in
-    let told = renewed_read touched lines before after c.loop-at.at no_line c.args.changed.now c.requires.changed c.loop-at-test.true in
+    let told = renewed_read origins lines before after c.loop-at.at no_line c.args.changed.now c.requires.changed c.loop-at-test.true in
     record {
       number = ap (λ (o : ℕ × Renewed). o.1.number) told ∙ ap (λ (o : ℕ × Renewed). row_number (row_at after o.0)) (sym told) ∙ ap row_number (sym c.row.ensures.value);
       used = subst (λ (r : List Cell). IsUsed r c.used.result) (sym c.row.ensures.value) c.used.ensures;
@@ -34,12 +34,12 @@ loop-at-init c =
     let after = c.args.screen.now.picture.rows in
     record {
       whole = c.requires.rows;
-      told = λ wide k low high. caught_none (renewed_lines lines c.args.screen.now.touched before after) c.args.screen.now.picture.columns before after k (wide k low high);
+      told = λ wide k low high. caught_none (renewed_lines lines c.args.screen.now.origins before after) c.args.screen.now.picture.columns before after k (wide k low high);
     }
 
 pub loop-at-preserved : goal.loop-at-preserved
 loop-at-preserved c =
-    let touched = c.args.screen.now.touched in
+    let origins = c.args.screen.now.origins in
     let lines = c.args.screen.now.picture.lines in
     let columns = c.args.screen.now.picture.columns in
     let before = c.args.rows.now in
@@ -50,11 +50,11 @@ loop-at-preserved c =
     let rows = c.loop-at.rows in
     let one = get_or changed at no_line in
     let line = one.0 in
-    let names = renewed_lines lines touched before after in
+    let names = renewed_lines lines origins before after in
     let kept = c.loop-at.invariant in
     let is = c.requires.changed in
-    let within : at < length names = omega (arith, c.loop-at-test.true, renewed_long touched lines before after changed is) in
-    let told = renewed_read touched lines before after at no_line changed is c.loop-at-test.true in
+    let within : at < length names = omega (arith, c.loop-at-test.true, renewed_long origins lines before after changed is) in
+    let told = renewed_read origins lines before after at no_line changed is c.loop-at-test.true in
     let named : line ≡ get_or names at 0 = ap (λ (o : ℕ × Renewed). o.0) told in
     let bounded : (1 ≤ line) × (line ≤ lines) = All-get_or (λ (o : ℕ × Renewed). (1 ≤ o.0) × (o.0 ≤ lines)) changed at no_line c.loop-at-test.true c.requires.lines in
     let high : line ≤ length rows = omega (arith, bounded.1, kept.whole) in
@@ -65,8 +65,8 @@ loop-at-preserved c =
           let was = was_row lines before (row_at after line) from
           (ap (λ (o : ℕ × Renewed). line_of lines before (row_at after o.0)) told ∙ sym (ap (λ (o : ℕ × Renewed). o.1.was) told) ∙ moved.was) in
           let to = moved.differs.0 in
-          let to_read = renewed_read touched lines before after to no_line changed is moved.differs.1 in
-          let to_within : to < length names = omega (arith, moved.differs.1, renewed_long touched lines before after changed is) in
+          let to_read = renewed_read origins lines before after to no_line changed is moved.differs.1 in
+          let to_within : to < length names = omega (arith, moved.differs.1, renewed_long origins lines before after changed is) in
           let differs = holds_read names to from to_within (sym (ap (λ (o : ℕ × Renewed). o.0) to_read) ∙ moved.differs.2) in
           rw (w.rows-is, w.last-is) (record {
             whole = w.swap.ensures.len ∙ kept.whole;
@@ -91,22 +91,22 @@ loop-at-preserved c =
 
 pub returns : goal.returns
 returns c = λ wide tells.
-    let touched = c.args.screen.now.touched in
+    let origins = c.args.screen.now.origins in
     let lines = c.args.screen.now.picture.lines in
     let before = c.args.rows.now in
     let after = c.args.screen.now.picture.rows in
     let rows = c.loop-at.rows in
-    let names = renewed_lines lines touched before after in
-    let p : ℕ → Bool = λ k. is_renewed touched (row_at before k) (row_at after k) k in
+    let names = renewed_lines lines origins before after in
+    let p : ℕ → Bool = λ k. is_renewed origins (row_at before k) (row_at after k) k in
     let kept = c.loop-at.invariant in
-    let long : length names ≤ c.loop-at.at = omega (arith, c.loop-at-test.false, renewed_long touched lines before after c.args.changed.now c.requires.changed) in
+    let long : length names ≤ c.loop-at.at = omega (arith, c.loop-at-test.false, renewed_long origins lines before after c.args.changed.now c.requires.changed) in
     let all = take_all c.loop-at.at names long in
     let same : (k : ℕ) → 1 ≤ k → k ≤ lines → row_at rows k ≡ row_at after k = λ k low high.
     let told = kept.told wide k low high in
     let here : holds k names ≡ p k = holds_filtered p k 1 lines low (omega (arith, high)) in
     elim (cases_Bool (holds k names)) [
       | inl t ↦ told.now (ap (holds k) all ∙ t)
-      | inr f ↦ told.still (ap (holds k) all ∙ f) (inl f) ∙ stays touched k before after tells (sym here ∙ f)
+      | inr f ↦ told.still (ap (holds k) all ∙ f) (inl f) ∙ stays origins k before after tells (sym here ∙ f)
     ] in
     record {
       lines = kept.whole;

@@ -8,6 +8,6 @@ abbrev pub invariant-loop-at : goal.invariant-loop-at
 invariant-loop-at l = record {
   whole : length l.rows ≡ l.fn.screen.picture.lines;
   told : AreWide l.fn.screen.picture.lines l.fn.screen.picture.columns l.fn.rows → (k : ℕ) → 1 ≤ k → k ≤ l.fn.screen.picture.lines
-      → Caught (renewed_lines l.fn.screen.picture.lines l.fn.screen.touched l.fn.rows l.fn.screen.picture.rows) l.at l.last l.fn.screen.picture.columns
+      → Caught (renewed_lines l.fn.screen.picture.lines l.fn.screen.origins l.fn.rows l.fn.screen.picture.rows) l.at l.last l.fn.screen.picture.columns
       l.fn.rows l.fn.screen.picture.rows l.rows k;
 }

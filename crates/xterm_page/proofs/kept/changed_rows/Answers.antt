@@ -17,7 +17,7 @@ loop-line-init c =
       high = first.high;
       touched = first.touched;
       told = c.in_ok-changed.ensures.items
-          ∙ renewed_none c.args.screen.now.touched c.args.screen.now.picture.lines c.args.rows.now c.args.screen.now.picture.rows 1 c.next_touched-line.result (omega arith) first.low first.between;
+          ∙ renewed_none c.args.screen.now.origins c.args.screen.now.picture.lines c.args.rows.now c.args.screen.now.picture.rows 1 c.next_touched-line.result (omega arith) first.low first.between;
       long = length-replicate 256 false;
       marked = λ line low high. absurd (omega (arith, low, high));
     }
@@ -27,15 +27,15 @@ loop-line-preserved c =
     let line = c.loop-line.line in
     let rows = c.args.rows.now in
     let after = c.args.screen.now.picture.rows in
-    let touched = c.args.screen.now.touched in
+    let origins = c.args.screen.now.origins in
     let lines = c.args.screen.now.picture.lines in
     let kept = c.loop-line.invariant in
     let next = c.next_touched-line-in-loop-line in
-    let here = is_renewed touched (row_at rows line) (row_at after line) line in
+    let here = is_renewed origins (row_at rows line) (row_at after line) line in
     let old = c.loop-line.changed.items in
     let known = renewed_of lines rows (row_at after line) in
     let none : Option Renewed = None in
-    let passed = renewed_none touched lines rows after (line + 1) next.result (omega arith) next.ensures.low next.ensures.between in
+    let passed = renewed_none origins lines rows after (line + 1) next.result (omega arith) next.ensures.low next.ensures.between in
     record {
       low = omega (arith, next.ensures.low);
       high = next.ensures.high;
@@ -43,14 +43,14 @@ loop-line-preserved c =
       told = elim c.match-renewed_line.branch [
         | in-Some+in_ok-push w ↦
             let told = cond_some here known w.in-Some.renewed (sym c.renewed_line.ensures ∙ w.in-Some.is) in
-            renewed_more touched lines rows after line true old c.match-renewed_line.changed.items kept.low (sym told.0) kept.told
+            renewed_more origins lines rows after line true old c.match-renewed_line.changed.items kept.low (sym told.0) kept.told
             (rw w.changed-is (w.in_ok-push.ensures.items ∙ ap (λ (r : Renewed). old ++ (line, r) ∷ []) (sym told.1))) ∙ passed
         | in_default w ↦
             let not_here : here ≡ false = elim (cases_Bool here) [
               | inl t ↦ absurd (w.in_default.not-Some known (c.renewed_line.ensures ∙ ap (λ (b : Bool). cond b (Some known) none) t))
               | inr f ↦ f
             ] in
-            renewed_more touched lines rows after line false old c.match-renewed_line.changed.items kept.low (sym not_here) kept.told
+            renewed_more origins lines rows after line false old c.match-renewed_line.changed.items kept.low (sym not_here) kept.told
             (rw w.changed-is (sym (append-nil old))) ∙ passed
       ];
       long = elim c.match-renewed_line.branch [
@@ -65,11 +65,11 @@ loop-line-preserved c =
 
 pub returns : goal.returns
 returns c =
-    let touched = c.args.screen.now.touched in
+    let origins = c.args.screen.now.origins in
     let lines = c.args.screen.now.picture.lines in
     let rows = c.args.rows.now in
     let after = c.args.screen.now.picture.rows in
     let all : c.loop-line.line - 1 ≡ lines =
     omega (arith, c.lines.ensures.value, c.loop-line-test.false, c.loop-line.invariant.high) in
-    let told = c.loop-line.invariant.told ∙ ap (λ n. renewed_to n touched lines rows after) all in
-    record { changed = told; lines = subst (AreLines lines) (sym told) (are_lines touched lines rows after) }
+    let told = c.loop-line.invariant.told ∙ ap (λ n. renewed_to n origins lines rows after) all in
+    record { changed = told; lines = subst (AreLines lines) (sym told) (are_lines origins lines rows after) }

@@ -8,8 +8,8 @@ abbrev pub invariant-loop-line : goal.invariant-loop-line
 invariant-loop-line l = record {
   low : 1 ≤ l.line;
   high : l.line ≤ l.fn.screen.picture.lines + 1;
-  touched : l.line ≤ l.fn.screen.picture.lines → is_touched l.fn.screen.touched l.line ≡ true;
-  told : l.changed.items ≡ renewed_to (l.line - 1) l.fn.screen.touched l.fn.screen.picture.lines l.rows l.fn.screen.picture.rows;
+  touched : l.line ≤ l.fn.screen.picture.lines → is_touched l.fn.screen.origins l.line ≡ true;
+  told : l.changed.items ≡ renewed_to (l.line - 1) l.fn.screen.origins l.fn.screen.picture.lines l.rows l.fn.screen.picture.rows;
   long : length l.marks ≡ 256;
   marked : AreMarked l.rows l.marked l.marks;
 }

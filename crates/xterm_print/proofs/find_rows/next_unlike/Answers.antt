@@ -28,7 +28,7 @@ pub returns-clause-between : goal.returns-clause-between
 returns-clause-between c = λ before told long k low lt.
     let now = c.args.screen.now.picture.rows in
     let between = c.next_touched-touched.ensures.between in
-    ap (λ row. row_read row (row_at before (k + 1))) (sym (told k (between k low lt))) ∙ elim (cases_lt (k + 1) c.next_touched-touched.result) [
-      | inl more ↦ ap (row_read (row_at now k)) (sym (told (k + 1) (between (k + 1) (omega (arith, low)) more)))
+    ap (λ row. row_read row (row_at before (k + 1))) (sym (told.stay k (between k low lt))) ∙ elim (cases_lt (k + 1) c.next_touched-touched.result) [
+      | inl more ↦ ap (row_read (row_at now k)) (sym (told.stay (k + 1) (between (k + 1) (omega (arith, low)) more)))
       | inr last ↦ last_one c before k long low (omega (arith, lt, last))
     ]

@@ -10,4 +10,4 @@ returns-then-not-any_touched-clause-rows c = λ before told long is.
     let sound = c.cursor-cursor.ensures.sound in
     let none : c.any_touched.result ≡ false = grind (arith, nat_tests) in
     is ∙ ap (rows_read c.args.screen.now.picture.lines)
-    (rows_untouched before now_ (long ∙ sym sound.rows) (λ line low high. told line (c.any_touched.ensures none line low (omega (arith, high, sound.rows)))))
+    (rows_untouched before now_ (long ∙ sym sound.rows) (λ line low high. told.stay line (c.any_touched.ensures none line low (omega (arith, high, sound.rows)))))

@@ -1,13 +1,12 @@
-use Rattle.std.proofs.Common.{◌≡◌, ◌+◌, ◌-◌, List, length, ap, sym, ◌∙◌, subst, arith, append-nil, refl, filter, inl, inr}
-use Rattle.std.proofs.lemmas.Bool.{cases_eq, cases_lt}
+use Rattle.std.proofs.Common.{◌≡◌, ◌+◌, ◌-◌, ◌≤◌, List, length, ap, sym, ◌∙◌, subst, arith, refl, filter, inl, inr}
+use Rattle.std.proofs.lemmas.Bool.{cases_lt}
 use Rattle.std.specs.List.{range_with_len}
 use Rattle.sheet.specs.Cells.{Cell}
 use Rattle.sheet.specs.Grid.{row_at}
 use Rattle.xterm_print.specs.ChangeLines.{changed_lines, is_changed}
-use Rattle.xterm_print.specs.Kept.{FollowAll, Follows}
-use Rattle.xterm_print.proofs.KeptLemmas.{not_changed, passing_more, passing_none}
+use Rattle.xterm_print.specs.Kept.{FollowAll, FollowLines, Follows}
+use Rattle.xterm_print.proofs.KeptLemmas.{not_changed, passing_none}
 use Rattle.xterm_print.proofs.kept.catch_up.Goals as goal
-use Rattle.xterm_print.proofs.kept.catch_up.Goals.{then-catch_up_line, else-catch_up_line}
 
 pub loop-line-init : goal.loop-line-init
 loop-line-init c = record {
@@ -20,45 +19,29 @@ loop-line-init c = record {
   caught = λ before told follow k low high. absurd (omega (arith, low, high));
 }
 
-pub push-requires : goal.push-requires
-push-requires c = (omega arith, omega (arith, c.loop-line.invariant.few, c.loop-line-test.true, c.lines-lines.ensures.high))
-
--- the row of the line follows that of before until it is caught up with
-was : (c : goal.Joined-catch_up_line) → (before : List (List Cell))
-    → FollowAll c.args.screen.now.picture.lines c.args.screen.now.picture.columns c.args.rows.now before
-    → Follows c.args.screen.now.picture.columns (row_at c.loop-line.rows c.loop-line.line) (row_at before c.loop-line.line)
-was c before follow =
-    let line = c.loop-line.line in
-    subst (λ row. Follows c.args.screen.now.picture.columns row (row_at before line)) (sym (c.loop-line.invariant.later line c.loop-line.invariant.low (omega arith)))
-    (follow.row line c.loop-line.invariant.low (omega (arith, c.lines-lines.ensures.value, c.loop-line-test.true)))
-
 pub loop-line-preserved-then-is_touched : goal.loop-line-preserved-then-is_touched
 loop-line-preserved-then-is_touched c =
     let line = c.loop-line.line in
-    let after = c.args.screen.now.picture.rows in
-    let columns = c.args.screen.now.picture.columns in
     let kept = c.loop-line.invariant in
+    let there = c.catch_up_from-line.ensures in
+    let columns = c.args.screen.now.picture.columns in
+    -- those from the line on follow what was before until they are caught up with
+    let was : (before : List (List Cell)) → FollowAll c.args.screen.now.picture.lines columns c.args.rows.now before
+    → FollowLines line c.catch_up_from-line.result columns c.loop-line.rows before = λ before follow k low high.
+    let here : 1 ≤ k = omega (arith, low, kept.low) in
+    subst (λ row. Follows columns row (row_at before k)) (sym (kept.later k here low))
+    (follow.row k here (omega (arith, high, there.high))) in
     record {
-      low = omega (arith, kept.low);
-      high = omega (arith, c.loop-line-test.true, c.lines-lines.ensures.value);
-      whole = c.catch_up_line.ensures.whole ∙ kept.whole;
-      changed = λ before told follow.
-          passing_more (is_changed before after) line c.catch_up_line.result c.loop-line.changed.items c.if-catch_up_line.changed.items kept.low
-          (c.catch_up_line.ensures.changed before told (was c before follow)) (kept.changed before told follow)
-          (elim c.if-catch_up_line.branch [
-            | then-catch_up_line w ↦ rw (w.changed-is, w.if-catch_up_line.true) w.push.ensures.items
-            | else-catch_up_line w ↦ rw (w.changed-is, w.if-catch_up_line.false) (sym (append-nil c.loop-line.changed.items))
-          ]);
-      few = elim c.if-catch_up_line.branch [
-        | then-catch_up_line w ↦ rw w.changed-is (omega (arith, w.push.ensures.len, kept.few))
-        | else-catch_up_line w ↦ rw w.changed-is (omega (arith, kept.few))
-      ];
-      later = λ k here from. c.catch_up_line.ensures.others k here (omega (arith, from)) ∙ kept.later k here (omega (arith, from));
-      caught = λ before told follow k here below. elim (cases_eq k line) [
-        | inl e ↦ subst (λ m. Follows columns (row_at c.catch_up_line.new.rows m) (row_at after m)) (sym e)
-            (c.catch_up_line.ensures.caught before told (was c before follow))
-        | inr ne ↦ subst (λ row. Follows columns row (row_at after k)) (sym (c.catch_up_line.ensures.others k here ne))
-            (kept.caught before told follow k here (omega (arith, below, ne)))
+      low = omega (arith, kept.low, there.low);
+      high = there.high;
+      whole = there.whole ∙ kept.whole;
+      changed = λ before told follow. there.changed before told (was before follow) (kept.changed before told follow);
+      few = there.few;
+      later = λ k here from. there.behind k from ∙ kept.later k here (omega (arith, from, there.low));
+      caught = λ before told follow k here below. elim (cases_lt k line) [
+        | inl so_far ↦ subst (λ row. Follows c.args.screen.now.picture.columns row (row_at c.args.screen.now.picture.rows k)) (sym (there.before k here so_far))
+            (kept.caught before told follow k here so_far)
+        | inr behind ↦ there.caught before told (was before follow) (kept.changed before told follow) k behind below
       ];
     }
 
@@ -78,7 +61,7 @@ loop-line-preserved c =
           let all : line - 1 + (next - line) ≡ next - 1 = omega (arith, kept.low, there.low) in
           kept.changed before told follow
           ∙ sym (passing_none (is_changed before after) (line - 1) (next - line)
-          (λ k low high. sym (not_changed before after k (told k (there.between k (omega (arith, low, kept.low)) (omega (arith, high, all, kept.low, there.low)))))))
+          (λ k low high. sym (not_changed before after k (told.stay k (there.between k (omega (arith, low, kept.low)) (omega (arith, high, all, kept.low, there.low)))))))
           ∙ ap (λ n. filter (is_changed before after) (range_with_len 1 n)) all;
       few = omega (arith, kept.few, there.low);
       later = λ k here from. kept.later k here (omega (arith, from, there.low));
@@ -86,7 +69,7 @@ loop-line-preserved c =
         | inl so_far ↦ kept.caught before told follow k here so_far
         | inr behind ↦
             subst (λ row. Follows columns row (row_at after k)) (sym (kept.later k here behind))
-            (subst (Follows columns (row_at c.args.rows.now k)) (sym (told k (there.between k behind below))) (follow.row k here (omega (arith, below, there.high))))
+            (subst (Follows columns (row_at c.args.rows.now k)) (sym (told.stay k (there.between k behind below))) (follow.row k here (omega (arith, below, there.high))))
       ];
     }
 

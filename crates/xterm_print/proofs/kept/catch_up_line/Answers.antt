@@ -6,15 +6,6 @@ use Rattle.xterm_print.specs.Kept.{Follows}
 use Rattle.xterm_print.proofs.KeptLemmas.{not_changed, row_read, row_set_other, row_set_same, same_as}
 use Rattle.xterm_print.proofs.kept.catch_up_line.Goals as goal
 
-pub returns-then-not-is_touched-clause-changed : goal.returns-then-not-is_touched-clause-changed
-returns-then-not-is_touched-clause-changed c = λ before told follow.
-    not_changed before c.args.screen.now.picture.rows c.args.line (told c.args.line (sym c.is_touched.ensures ∙ c.if-not-is_touched.true))
-
-pub returns-then-not-is_touched-clause-caught : goal.returns-then-not-is_touched-clause-caught
-returns-then-not-is_touched-clause-caught c = λ before told follow.
-    subst (λ row. Follows c.args.screen.now.picture.columns (row_at c.args.rows.now c.args.line) row)
-    (sym (told c.args.line (sym c.is_touched.ensures ∙ c.if-not-is_touched.true))) follow
-
 pub returns-clause-whole : goal.returns-clause-whole
 returns-clause-whole c = length-set c.args.rows.now (c.args.line - 1) c.catch_up.new.self
 

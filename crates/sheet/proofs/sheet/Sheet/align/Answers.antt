@@ -3,7 +3,7 @@ use Rattle.std.specs.Vec.{with_items}
 use Rattle.std.specs.Prelude.{false}
 use Rattle.sheet.specs.declared.rendition.Colour.TheVariants.{Default}
 use Rattle.sheet.specs.Cells.{Cell, alignment, plain_on}
-use Rattle.sheet.specs.Grid.{lines_filled, row_of, touched_from}
+use Rattle.sheet.specs.Grid.{lines_filled, row_of, unknown_from}
 use Rattle.sheet.specs.Held.{LinesFilled, Once, SlotsStayOrFill}
 use Rattle.sheet.specs.View.{held_of}
 use Rattle.sheet.proofs.Rows.{lettered_open, lettered_wide}
@@ -19,18 +19,18 @@ fill_lines-requires-clause-slots c = ap length c.as_mut_slice.ensures.value ∙ 
 pub fill_lines-requires-clause-high : goal.fill_lines-requires-clause-high
 fill_lines-requires-clause-high c = omega (arith, lines_of (held_of c.self.inside) _ c.self.view_is, ap length c.as_slice.ensures.value)
 
-pub touch_lines-requires-clause-high : goal.touch_lines-requires-clause-high
-touch_lines-requires-clause-high c =
-    omega (arith, lines_of (held_of c.self.inside) _ c.self.view_is, c.self.invariant.touched, ap length c.as_mut_slice-2.ensures.value)
+pub forget_lines-requires-clause-high : goal.forget_lines-requires-clause-high
+forget_lines-requires-clause-high c =
+    omega (arith, lines_of (held_of c.self.inside) _ c.self.view_is, c.self.invariant.origins, ap length c.as_mut_slice-2.ensures.value)
 
 -- what the two fields are in the end
 is_filled : (c : goal.After-self-2-1) → (with_items c.self.inside.slots c.fill_lines.new.slots).items ≡ c.fill_lines.new.slots
 is_filled c = take_at c.fill_lines.new.slots _ c.self.inside.slots.len (c.fill_lines.auto.slots ∙ c.as_mut_slice.ensures.len)
 
-is_touched : (c : goal.After-self-2-1) → (with_items c.self.inside.touched c.touch_lines.new.touched).items ≡ touched_from 1 (c.len-last.result + 1) c.self.inside.touched.items
-is_touched c =
-    take_at c.touch_lines.new.touched _ c.self.inside.touched.len (c.touch_lines.auto.touched ∙ c.as_mut_slice-2.ensures.len) ∙ c.touch_lines.ensures
-    ∙ ap (touched_from 1 (c.len-last.result + 1)) c.as_mut_slice-2.ensures.value
+forgot : (c : goal.After-self-2-1) → (with_items c.self.inside.origins c.forget_lines.new.origins).items ≡ unknown_from 1 (c.len-last.result + 1) c.self.inside.origins.items
+forgot c =
+    take_at c.forget_lines.new.origins _ c.self.inside.origins.len (c.forget_lines.auto.origins ∙ c.as_mut_slice-2.ensures.len) ∙ c.forget_lines.ensures
+    ∙ ap (unknown_from 1 (c.len-last.result + 1)) c.as_mut_slice-2.ensures.value
 
 filled : (c : goal.After-self-2-1) → LinesFilled 1 (c.len-last.result + 1) alignment c.self.inside.order.items c.self.inside.slots.items (with_items c.self.inside.slots c.fill_lines.new.slots).items
 filled c =
@@ -50,16 +50,16 @@ stay c =
 pub invariant_of-self : goal.invariant_of-self
 invariant_of-self c =
     filled_sound 1 c.len-last.result (held_of c.self.inside) _ c.self.invariant c.self.view_is alignment (lettered_wide 69 false (plain_on Default)) (lettered_open 69 false (plain_on Default))
-    _ (filled c) (stay c) _ (is_touched c) (ap length (is_filled c) ∙ c.fill_lines.auto.slots ∙ ap length c.as_mut_slice.ensures.value)
+    _ (filled c) (stay c) _ (forgot c) (ap length (is_filled c) ∙ c.fill_lines.auto.slots ∙ ap length c.as_mut_slice.ensures.value)
 
 pub returns-clause-rows : goal.returns-clause-rows
 returns-clause-rows c =
     filled_rows 1 c.len-last.result (held_of c.self.inside) _ c.self.invariant c.self.view_is alignment (lettered_wide 69 false (plain_on Default)) (lettered_open 69 false (plain_on Default))
-    _ (filled c) (stay c) _ (is_touched c)
+    _ (filled c) (stay c) _ (forgot c)
     ∙ ap (λ (n : ℕ). lines_filled 1 n (row_of c.args.self.now.columns alignment) c.args.self.now.rows) (c.len-last.ensures ∙ c.self.inside.order.ok.0 ∙ sym (lines_of (held_of c.self.inside) _ c.self.view_is))
     ∙ lines_all c.args.self.now.lines (row_of c.args.self.now.columns alignment) c.args.self.now.rows (rows_counted (held_of c.self.inside) _ c.self.view_is)
 
 pub returns-clause-told : goal.returns-clause-told
 returns-clause-told c =
     filled_told 1 c.len-last.result (held_of c.self.inside) _ c.self.invariant c.self.view_is alignment (lettered_wide 69 false (plain_on Default)) (lettered_open 69 false (plain_on Default))
-    _ (filled c) (stay c) _ (is_touched c)
+    _ (filled c) (stay c) _ (forgot c)

@@ -1,7 +1,7 @@
 use Rattle.std.proofs.Common.{◌≡◌, ℕ, ◌+◌, List, length, sym, ap, subst, ◌∙◌, arith, take_at}
 use Rattle.std.specs.Vec.{with_items}
 use Rattle.sheet.specs.Cells.{Cell, blank}
-use Rattle.sheet.specs.Grid.{touched_from}
+use Rattle.sheet.specs.Grid.{unknown_from}
 use Rattle.sheet.specs.Held.{LinesFilled, Once, SlotsStayOrFill}
 use Rattle.sheet.specs.View.{held_of}
 use Rattle.sheet.proofs.Rows.{blank_narrow, blank_open}
@@ -17,18 +17,18 @@ fill_lines-requires-clause-slots c = ap length c.as_mut_slice.ensures.value ∙ 
 pub fill_lines-requires-clause-high : goal.fill_lines-requires-clause-high
 fill_lines-requires-clause-high c = omega (arith, lines_of (held_of c.self.inside) _ c.self.view_is, ap length c.as_slice.ensures.value)
 
-pub touch_lines-requires-clause-high : goal.touch_lines-requires-clause-high
-touch_lines-requires-clause-high c =
-    omega (arith, lines_of (held_of c.self.inside) _ c.self.view_is, c.self.invariant.touched, ap length c.as_mut_slice-2.ensures.value)
+pub forget_lines-requires-clause-high : goal.forget_lines-requires-clause-high
+forget_lines-requires-clause-high c =
+    omega (arith, lines_of (held_of c.self.inside) _ c.self.view_is, c.self.invariant.origins, ap length c.as_mut_slice-2.ensures.value)
 
 -- what the two fields are in the end
 is_filled : (c : goal.After-self-2-1) → (with_items c.self.inside.slots c.fill_lines.new.slots).items ≡ c.fill_lines.new.slots
 is_filled c = take_at c.fill_lines.new.slots _ c.self.inside.slots.len (c.fill_lines.auto.slots ∙ c.as_mut_slice.ensures.len)
 
-is_touched : (c : goal.After-self-2-1) → (with_items c.self.inside.touched c.touch_lines.new.touched).items ≡ touched_from c.args.from (c.args.to + 1) c.self.inside.touched.items
-is_touched c =
-    take_at c.touch_lines.new.touched _ c.self.inside.touched.len (c.touch_lines.auto.touched ∙ c.as_mut_slice-2.ensures.len) ∙ c.touch_lines.ensures
-    ∙ ap (touched_from c.args.from (c.args.to + 1)) c.as_mut_slice-2.ensures.value
+forgot : (c : goal.After-self-2-1) → (with_items c.self.inside.origins c.forget_lines.new.origins).items ≡ unknown_from c.args.from (c.args.to + 1) c.self.inside.origins.items
+forgot c =
+    take_at c.forget_lines.new.origins _ c.self.inside.origins.len (c.forget_lines.auto.origins ∙ c.as_mut_slice-2.ensures.len) ∙ c.forget_lines.ensures
+    ∙ ap (unknown_from c.args.from (c.args.to + 1)) c.as_mut_slice-2.ensures.value
 
 filled : (c : goal.After-self-2-1) → LinesFilled c.args.from (c.args.to + 1) (blank c.args.paper) c.self.inside.order.items c.self.inside.slots.items (with_items c.self.inside.slots c.fill_lines.new.slots).items
 filled c =
@@ -48,14 +48,14 @@ stay c =
 pub invariant_of-self : goal.invariant_of-self
 invariant_of-self c =
     filled_sound c.args.from c.args.to (held_of c.self.inside) _ c.self.invariant c.self.view_is (blank c.args.paper) (blank_narrow c.args.paper) (blank_open c.args.paper)
-    _ (filled c) (stay c) _ (is_touched c) (ap length (is_filled c) ∙ c.fill_lines.auto.slots ∙ ap length c.as_mut_slice.ensures.value)
+    _ (filled c) (stay c) _ (forgot c) (ap length (is_filled c) ∙ c.fill_lines.auto.slots ∙ ap length c.as_mut_slice.ensures.value)
 
 pub returns-clause-rows : goal.returns-clause-rows
 returns-clause-rows c =
     filled_rows c.args.from c.args.to (held_of c.self.inside) _ c.self.invariant c.self.view_is (blank c.args.paper) (blank_narrow c.args.paper) (blank_open c.args.paper)
-    _ (filled c) (stay c) _ (is_touched c)
+    _ (filled c) (stay c) _ (forgot c)
 
 pub returns-clause-told : goal.returns-clause-told
 returns-clause-told c =
     filled_told c.args.from c.args.to (held_of c.self.inside) _ c.self.invariant c.self.view_is (blank c.args.paper) (blank_narrow c.args.paper) (blank_open c.args.paper)
-    _ (filled c) (stay c) _ (is_touched c)
+    _ (filled c) (stay c) _ (forgot c)

@@ -10,7 +10,7 @@ pub index_mut-row-requires : goal.index_mut-row-requires
 index_mut-row-requires c = omega (arith, slot_below (held_of c.self.inside) _ c.self.invariant c.self.view_is c.args.line c.requires.line_low c.requires.line_high _ c.index.ensures, c.self.inside.slots.ok.0)
 
 pub index_mut-requires : goal.index_mut-requires
-index_mut-requires c = omega (arith, inside (held_of c.self.inside) _ c.self.invariant c.self.view_is c.args.line c.requires.line_low c.requires.line_high, c.self.invariant.touched, c.self.inside.touched.ok.0)
+index_mut-requires c = omega (arith, inside (held_of c.self.inside) _ c.self.invariant c.self.view_is c.args.line c.requires.line_low c.requires.line_high, c.self.invariant.origins, c.self.inside.origins.ok.0)
 
 pub put_run-requires-clause-whole : goal.put_run-requires-clause-whole
 put_run-requires-clause-whole c = row_whole (held_of c.self.inside) _ c.self.invariant c.self.view_is c.args.line c.requires.line_low c.requires.line_high _ c.index.ensures _ c.index_mut-row.ensures.value

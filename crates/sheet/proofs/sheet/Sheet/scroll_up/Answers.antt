@@ -1,11 +1,11 @@
 use Rattle.std.proofs.Common.{◌≡◌, ℕ, ◌+◌, ◌-◌, List, length, sym, ap, subst, ◌∙◌, arith, take_at}
 use Rattle.std.specs.Vec.{with_items}
 use Rattle.sheet.specs.Cells.{Cell, blank}
-use Rattle.sheet.specs.Grid.{touched_from}
+use Rattle.sheet.specs.Grid.{unknown_from}
 use Rattle.sheet.specs.Held.{LinesFilled, Once, SlotsStayOrFill, turned_up}
 use Rattle.sheet.specs.View.{held_of}
 use Rattle.sheet.proofs.Rows.{blank_narrow, blank_open}
-use Rattle.sheet.proofs.Turns.{length-turned, lines_of, once_turned, scrolled_rows, scrolled_sound, scrolled_told, line_up, each_up, outside_up}
+use Rattle.sheet.proofs.Turns.{length-turned, lines_of, once_turned, scrolled_rows, scrolled_sound, scrolled_told, line_up, each_up}
 use Rattle.sheet.proofs.sheet.Sheet.scroll_up.Goals as goal
 
 pub turn-requires-clause-high : goal.turn-requires-clause-high
@@ -25,9 +25,13 @@ pub fill_lines-requires-clause-high : goal.fill_lines-requires-clause-high
 fill_lines-requires-clause-high c =
     omega (arith, lines_of (held_of c.self.inside) _ c.self.view_is, ap length (order_back c), length-turned c.min-n.result c.args.top c.args.bottom c.self.inside.order.items)
 
-pub touch_lines-requires-clause-high : goal.touch_lines-requires-clause-high
-touch_lines-requires-clause-high c =
-    omega (arith, lines_of (held_of c.self.inside) _ c.self.view_is, c.self.invariant.touched, ap length c.as_mut_slice-3.ensures.value)
+pub turn_origins-requires-clause-high : goal.turn_origins-requires-clause-high
+turn_origins-requires-clause-high c =
+    omega (arith, lines_of (held_of c.self.inside) _ c.self.view_is, c.self.invariant.origins, ap length c.as_mut_slice-3.ensures.value)
+
+pub turn_origins-requires-clause-last_high : goal.turn_origins-requires-clause-last_high
+turn_origins-requires-clause-last_high c =
+    omega (arith, lines_of (held_of c.self.inside) _ c.self.view_is, c.self.invariant.origins, ap length c.as_mut_slice-3.ensures.value)
 
 -- what the three fields are in the end
 is_turned : (c : goal.After-self-3-1) → (with_items c.self.inside.order c.turn.new.order).items ≡ turned_up c.min-n.result c.args.top c.args.bottom c.self.inside.order.items
@@ -38,10 +42,11 @@ is_turned c =
 is_cleared : (c : goal.After-self-3-1) → (with_items c.self.inside.slots c.fill_lines.new.slots).items ≡ c.fill_lines.new.slots
 is_cleared c = take_at c.fill_lines.new.slots _ c.self.inside.slots.len (c.fill_lines.auto.slots ∙ c.as_mut_slice-2.ensures.len)
 
-is_touched : (c : goal.After-self-3-1) → (with_items c.self.inside.touched c.touch_lines.new.touched).items ≡ touched_from c.args.top (c.args.bottom + 1) c.self.inside.touched.items
-is_touched c =
-    take_at c.touch_lines.new.touched _ c.self.inside.touched.len (c.touch_lines.auto.touched ∙ c.as_mut_slice-3.ensures.len) ∙ c.touch_lines.ensures
-    ∙ ap (touched_from c.args.top (c.args.bottom + 1)) c.as_mut_slice-3.ensures.value
+came : (c : goal.After-self-3-1) → (with_items c.self.inside.origins c.turn_origins.new.origins).items
+    ≡ unknown_from (c.args.bottom + 1 - c.min-n.result) (c.args.bottom + 1) (turned_up c.min-n.result c.args.top c.args.bottom c.self.inside.origins.items)
+came c =
+    take_at c.turn_origins.new.origins _ c.self.inside.origins.len (c.turn_origins.auto.origins ∙ c.as_mut_slice-3.ensures.len) ∙ c.turn_origins.ensures
+    ∙ ap (λ (origins : List ℕ). unknown_from (c.args.bottom + 1 - c.min-n.result) (c.args.bottom + 1) (turned_up c.min-n.result c.args.top c.args.bottom origins)) c.as_mut_slice-3.ensures.value
 
 blanked : (c : goal.After-self-3-1) → LinesFilled (c.args.bottom + 1 - c.min-n.result) (c.args.bottom + 1) (blank c.args.paper)
     (with_items c.self.inside.order c.turn.new.order).items c.self.inside.slots.items (with_items c.self.inside.slots c.fill_lines.new.slots).items
@@ -63,18 +68,18 @@ stay c =
 pub invariant_of-self : goal.invariant_of-self
 invariant_of-self c =
     scrolled_sound (held_of c.self.inside) _ c.self.invariant c.self.view_is c.min-n.result c.args.top c.args.bottom (c.args.bottom + 1 - c.min-n.result) (c.args.bottom + 1) (blank c.args.paper) (blank_narrow c.args.paper) (blank_open c.args.paper) c.requires.low c.requires.apart c.requires.high (omega (arith, c.min-n.ensures))
-    _ (is_turned c) _ (blanked c) (stay c) _ c.args.top (c.args.bottom + 1) (is_touched c) (line_up c.args.n c.min-n.result c.args.top c.args.bottom c.requires.low c.requires.apart c.min-n.ensures)
-    (each_up c.args.n c.min-n.result c.args.top c.args.bottom c.requires.low c.requires.apart c.min-n.ensures) (outside_up c.args.n c.min-n.result c.args.top c.args.bottom c.requires.low c.requires.apart c.min-n.ensures)
+    _ (is_turned c) _ (blanked c) (stay c) _ (came c) (line_up c.args.n c.min-n.result c.args.top c.args.bottom c.requires.low c.requires.apart c.min-n.ensures)
+    (each_up c.args.n c.min-n.result c.args.top c.args.bottom c.requires.low c.requires.apart c.min-n.ensures)
     (ap length (is_cleared c) ∙ c.fill_lines.auto.slots ∙ ap length c.as_mut_slice-2.ensures.value)
 
 pub returns-clause-rows : goal.returns-clause-rows
 returns-clause-rows c =
     scrolled_rows (held_of c.self.inside) _ c.self.invariant c.self.view_is c.min-n.result c.args.top c.args.bottom (c.args.bottom + 1 - c.min-n.result) (c.args.bottom + 1) (blank c.args.paper) (blank_narrow c.args.paper) (blank_open c.args.paper) c.requires.low c.requires.apart c.requires.high (omega (arith, c.min-n.ensures))
-    _ (is_turned c) _ (blanked c) (stay c) _ c.args.top (c.args.bottom + 1) (is_touched c) (line_up c.args.n c.min-n.result c.args.top c.args.bottom c.requires.low c.requires.apart c.min-n.ensures)
-    (each_up c.args.n c.min-n.result c.args.top c.args.bottom c.requires.low c.requires.apart c.min-n.ensures) (outside_up c.args.n c.min-n.result c.args.top c.args.bottom c.requires.low c.requires.apart c.min-n.ensures)
+    _ (is_turned c) _ (blanked c) (stay c) _ (came c) (line_up c.args.n c.min-n.result c.args.top c.args.bottom c.requires.low c.requires.apart c.min-n.ensures)
+    (each_up c.args.n c.min-n.result c.args.top c.args.bottom c.requires.low c.requires.apart c.min-n.ensures)
 
 pub returns-clause-told : goal.returns-clause-told
 returns-clause-told c =
     scrolled_told (held_of c.self.inside) _ c.self.invariant c.self.view_is c.min-n.result c.args.top c.args.bottom (c.args.bottom + 1 - c.min-n.result) (c.args.bottom + 1) (blank c.args.paper) (blank_narrow c.args.paper) (blank_open c.args.paper) c.requires.low c.requires.apart c.requires.high (omega (arith, c.min-n.ensures))
-    _ (is_turned c) _ (blanked c) (stay c) _ c.args.top (c.args.bottom + 1) (is_touched c) (line_up c.args.n c.min-n.result c.args.top c.args.bottom c.requires.low c.requires.apart c.min-n.ensures)
-    (each_up c.args.n c.min-n.result c.args.top c.args.bottom c.requires.low c.requires.apart c.min-n.ensures) (outside_up c.args.n c.min-n.result c.args.top c.args.bottom c.requires.low c.requires.apart c.min-n.ensures)
+    _ (is_turned c) _ (blanked c) (stay c) _ (came c) (line_up c.args.n c.min-n.result c.args.top c.args.bottom c.requires.low c.requires.apart c.min-n.ensures)
+    (each_up c.args.n c.min-n.result c.args.top c.args.bottom c.requires.low c.requires.apart c.min-n.ensures)

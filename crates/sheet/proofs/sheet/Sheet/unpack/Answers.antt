@@ -1,13 +1,13 @@
-use Rattle.std.proofs.Common.{◌≡◌, ℕ, ◌+◌, ◌-◌, ◌<◌, true, List, length, sym, ap, ap₂, ◌∙◌, arith, take_at}
+use Rattle.std.proofs.Common.{◌≡◌, ℕ, ◌+◌, ◌-◌, ◌<◌, List, length, sym, ap, ap₂, ◌∙◌, arith, take_at}
 use Rattle.std.specs.Vec.{with_items}
 use Rattle.sheet.specs.Cells.{Cell}
-use Rattle.sheet.specs.Grid.{touched_from}
+use Rattle.sheet.specs.Grid.{no_origins, unknown_from}
 use Rattle.sheet.specs.Held.{row_in}
 use Rattle.sheet.specs.Packed.{unpacked}
 use Rattle.sheet.specs.Table.{table}
 use Rattle.sheet.specs.View.{held_of}
 use Rattle.sheet.proofs.Packed.{unpacked_is, unpacked_sound}
-use Rattle.sheet.proofs.Turns.{touched_all}
+use Rattle.sheet.proofs.Turns.{unknown_all}
 use Rattle.sheet.proofs.sheet.Sheet.unpack.Goals as goal
 
 -- what the three fields are in the end
@@ -25,18 +25,18 @@ each c slot below =
     ap (λ (slots : List (List Cell)). row_in slots slot) (is_restored c) ∙ c.restore_slots.ensures slot (omega (arith, ap length c.as_mut_slice-2.ensures.value))
     ∙ ap₂ (λ (old kept : List (List Cell)). unpacked (length (row_in old slot)) (row_in kept slot)) c.as_mut_slice-2.ensures.value c.as_slice.ensures.value
 
-is_touched : (c : goal.After-self-3-1) → (with_items c.self.inside.touched c.touch_lines.new.touched).items ≡ table (length c.self.inside.touched.items) (λ _. true)
-is_touched c =
-    take_at c.touch_lines.new.touched _ c.self.inside.touched.len (c.touch_lines.auto.touched ∙ c.as_mut_slice-3.ensures.len) ∙ c.touch_lines.ensures
-    ∙ ap (touched_from 1 (c.len-last.result + 1)) c.as_mut_slice-3.ensures.value
-    ∙ touched_all c.len-last.result c.self.inside.touched.items (c.self.invariant.touched ∙ sym (c.len-last.ensures ∙ c.self.inside.order.ok.0))
+forgot : (c : goal.After-self-3-1) → (with_items c.self.inside.origins c.forget_lines.new.origins).items ≡ no_origins (length c.self.inside.origins.items)
+forgot c =
+    take_at c.forget_lines.new.origins _ c.self.inside.origins.len (c.forget_lines.auto.origins ∙ c.as_mut_slice-3.ensures.len) ∙ c.forget_lines.ensures
+    ∙ ap (unknown_from 1 (c.len-last.result + 1)) c.as_mut_slice-3.ensures.value
+    ∙ unknown_all c.len-last.result c.self.inside.origins.items (c.self.invariant.origins ∙ sym (c.len-last.ensures ∙ c.self.inside.order.ok.0))
 
 pub invariant_of-self : goal.invariant_of-self
 invariant_of-self c =
     unpacked_sound (held_of c.self.inside) _ c.self.invariant c.self.view_is c.packed.inside.columns c.packed.inside.rows.items c.args.packed.now c.packed.invariant c.packed.view_is c.requires.columns c.requires.lines
-    _ (is_order c) _ (ap length (is_restored c) ∙ c.restore_slots.auto.slots ∙ ap length c.as_mut_slice-2.ensures.value) (each c) _ (is_touched c)
+    _ (is_order c) _ (ap length (is_restored c) ∙ c.restore_slots.auto.slots ∙ ap length c.as_mut_slice-2.ensures.value) (each c) _ (forgot c)
 
 pub returns : goal.returns
 returns c =
     unpacked_is (held_of c.self.inside) _ c.self.invariant c.self.view_is c.packed.inside.columns c.packed.inside.rows.items c.args.packed.now c.packed.invariant c.packed.view_is c.requires.columns c.requires.lines
-    _ (is_order c) _ (ap length (is_restored c) ∙ c.restore_slots.auto.slots ∙ ap length c.as_mut_slice-2.ensures.value) (each c) _ (is_touched c)
+    _ (is_order c) _ (ap length (is_restored c) ∙ c.restore_slots.auto.slots ∙ ap length c.as_mut_slice-2.ensures.value) (each c) _ (forgot c)

@@ -1,12 +1,13 @@
-use Rattle.std.proofs.Common.{◌≡◌, ◌∙◌, List, Bool, length, ap, ap₂, sym, subst, arith}
+use Rattle.std.proofs.Common.{◌≡◌, ◌∙◌, List, ℕ, length, ap, ap₂, sym, subst, arith}
 use Rattle.tape_core.specs.Devices.{Gave}
 use Rattle.sheet.specs.Cells.{Cell}
+use Rattle.sheet.specs.Grid.{AreMarked as MarksTell}
 use Rattle.xterm_screen.specs.Picture.{Picture}
 use Rattle.xterm_term.specs.Console.{Console}
 use Rattle.xterm_print.proofs.ShownLemmas.{written_back}
 use Rattle.xterm_page.specs.Entries.{console_by, entry_of}
 use Rattle.xterm_page.specs.EntryText.{next_text}
-use Rattle.xterm_page.specs.Parts.{AreKept, AreLines, AreTold, AreWide, renewed}
+use Rattle.xterm_page.specs.Parts.{AreKept, AreLines, AreWide, renewed}
 use Rattle.xterm_page.proofs.KeptLemmas.{kept_by, wide_by}
 use Rattle.xterm_page.proofs.entry_printer.EntryPrinterVisitorTerminal.visit.Goals as goal
 
@@ -25,7 +26,7 @@ catch_up-requires g c =
       rows = omega (arith, c.as_mut_slice.ensures.len, c.len.ensures, c.if-len-lines.true, c.lines.ensures.value);
       lines = subst (AreLines p.lines) (sym c.as_slice-then-len-lines-2.ensures.value) c.in_ok-changed.ensures.lines;
       changed = c.as_slice-then-len-lines-2.ensures.value ∙ c.in_ok-changed.ensures.changed
-          ∙ ap (λ (rows : List (List Cell)). renewed c.screen-screen.result.now.touched p.lines rows p.rows) (c.as_slice.ensures.value ∙ sym c.as_mut_slice.ensures.value);
+          ∙ ap (λ (rows : List (List Cell)). renewed c.screen-screen.result.now.origins p.lines rows p.rows) (c.as_slice.ensures.value ∙ sym c.as_mut_slice.ensures.value);
     }
 
 pub returns-in_ok-changed-clause-gave : goal.returns-in_ok-changed-clause-gave
@@ -34,8 +35,8 @@ returns-in_ok-changed-clause-gave g c = λ profile before after are shows tells.
     let was = c.as_slice.ensures.value ∙ are.rows in
     let old_rows = (console_by profile.columns profile.lines before).picture.rows in
     let changed = c.as_slice-then-len-lines.ensures.value ∙ c.in_ok-changed.ensures.changed
-    ∙ ap (λ (rows : List (List Cell)). renewed c.screen-screen.result.now.touched p.lines rows p.rows) was
-    ∙ ap₂ (λ (t : List Bool) (q : Picture). renewed t q.lines old_rows q.rows) c.screen-screen.ensures.touched c.screen-screen.ensures.value in
+    ∙ ap (λ (rows : List (List Cell)). renewed c.screen-screen.result.now.origins p.lines rows p.rows) was
+    ∙ ap₂ (λ (t : List ℕ) (q : Picture). renewed t q.lines old_rows q.rows) c.screen-screen.ensures.touched c.screen-screen.ensures.value in
     subst (Gave g.W.Write.contents c.args.writer.now c.put_entry.new.writer)
     (ap (λ (s : Console). next_text (entry_of c.args.due old_rows s)) (sym shows.console))
     (c.put_entry.ensures old_rows tells changed)
@@ -48,10 +49,10 @@ returns-in_ok-changed-clause-keeps g c = λ profile before after are shows tells
     let law = c.size_stays.ensures in
     let was = c.as_mut_slice.ensures.value ∙ are.rows in
     let old_rows = (console_by profile.columns profile.lines before).picture.rows in
-    let told : AreTold c.as_mut_slice.result.now c.screen-screen.result.now.touched p.rows =
-    subst (λ (rows : List (List Cell)). AreTold rows c.screen-screen.result.now.touched p.rows) (sym was)
-    (subst (λ (q : Picture). AreTold old_rows c.screen-screen.result.now.touched q.rows) (sym is)
-    (subst (λ (t : List Bool). AreTold old_rows t c.args.terminal.now.console.picture.rows) (sym c.screen-screen.ensures.touched) tells)) in
+    let told : MarksTell c.as_mut_slice.result.now c.screen-screen.result.now.origins p.rows =
+    subst (λ (rows : List (List Cell)). MarksTell rows c.screen-screen.result.now.origins p.rows) (sym was)
+    (subst (λ (q : Picture). MarksTell old_rows c.screen-screen.result.now.origins q.rows) (sym is)
+    (subst (λ (t : List ℕ). MarksTell old_rows t c.args.terminal.now.console.picture.rows) (sym c.screen-screen.ensures.touched) tells)) in
     let wide = wide_by law p c.args.terminal.now profile after c.as_mut_slice.result.now is shows
     (subst (λ rows. AreWide profile.lines profile.columns rows) (sym c.as_mut_slice.ensures.value) are.columns) in
     let kept = c.catch_up.ensures wide told in

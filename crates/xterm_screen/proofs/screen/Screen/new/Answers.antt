@@ -1,7 +1,8 @@
 use Rattle.std.proofs.Common.{ap, sym, take_at, ◌∙◌}
-use Rattle.sheet.specs.Grid.{Grid, is_touched}
+use Rattle.sheet.specs.Grid.{Grid}
 use Rattle.xterm_screen.specs.Picture.{first_tabs}
-use Rattle.xterm_screen.proofs.Screens.{all_told, sound_reset_is}
+use Rattle.sheet.proofs.Came.{all_told}
+use Rattle.xterm_screen.proofs.Screens.{sound_reset_is}
 use Rattle.xterm_screen.proofs.screen.Screen.new.Goals as goal
 
 pub invariant_of-result : goal.invariant_of-result
@@ -22,5 +23,5 @@ invariant_of-result c =
     }
 
 pub returns-clause-told : goal.returns-clause-told
-returns-clause-told c = λ before line untouched.
-    all_told c.args.lines c.in_ok-shown.shown.rows before line (sym (ap (λ (g : Grid). is_touched g.touched line) c.in_ok-shown.ensures) ∙ untouched)
+returns-clause-told c = λ before.
+    all_told c.args.lines c.in_ok-shown.shown.rows before _ (ap (λ (g : Grid). g.origins) c.in_ok-shown.ensures)

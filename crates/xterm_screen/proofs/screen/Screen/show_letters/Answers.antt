@@ -1,5 +1,5 @@
-use Rattle.std.proofs.Common.{ap, ◌∙◌, arith}
-use Rattle.xterm_screen.specs.Picture.{ScreenState}
+use Rattle.std.proofs.Common.{ap, ◌∙◌, subst, sym, arith}
+use Rattle.xterm_screen.specs.Picture.{ScreenState, Told}
 use Rattle.xterm_screen.specs.View.{picture_of}
 use Rattle.xterm_screen.proofs.Parts.{end_shown, part_wrapped, within_shown}
 use Rattle.xterm_screen.proofs.Runs.{taken_unwrapped}
@@ -31,3 +31,11 @@ returns-else-count-room-clause-picture c =
     part_wrapped c.args.rendition c.args.autowrap c.args.inserting c.args.letters.now c.min-count.result c.args.self.now.picture _ _ (omega arith) (omega (arith, c.self.invariant.sound.column_high)) c.if-inserting.false taken
     (within_shown c.self.inside c.self.invariant c.args.rendition c.args.autowrap c.args.letters.now c.min-count.result (omega arith) c.put_letters.new.self
     c.put_letters.ensures.rows unwrapped (omega (arith, c.self.invariant.sound.column_high)))
+
+pub returns-then-count-room-clause-told : goal.returns-then-count-room-clause-told
+returns-then-count-room-clause-told c = λ before was.
+    c.put_letters.ensures.told before (subst (λ (s : ScreenState). Told before s) (sym c.self.view_is) (c.take_wrap.ensures.told before was))
+
+pub returns-else-count-room-clause-told : goal.returns-else-count-room-clause-told
+returns-else-count-room-clause-told c = λ before was.
+    c.put_letters.ensures.told before (subst (λ (s : ScreenState). Told before s) (sym c.self.view_is) (c.take_wrap.ensures.told before was))

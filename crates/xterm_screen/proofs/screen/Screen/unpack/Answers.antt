@@ -1,9 +1,8 @@
-use Rattle.std.proofs.Common.{Bool, List, sym, ap, ◌∙◌}
-use Rattle.sheet.specs.Grid.{Grid, is_touched}
-use Rattle.xterm_screen.proofs.Screens.{all_told}
+use Rattle.std.proofs.Common.{ap, ◌∙◌}
+use Rattle.sheet.specs.Grid.{Grid}
+use Rattle.sheet.proofs.Came.{all_told}
 use Rattle.xterm_screen.proofs.screen.Screen.unpack.Goals as goal
 
 pub returns-clause-told : goal.returns-clause-told
-returns-clause-told c = λ before line untouched.
-    let touched = ap (λ (g : Grid). g.touched) c.unpack.ensures ∙ c.packed.invariant.shown_touched in
-    all_told c.packed.inside.lines c.unpack.new.self.rows before line (sym (ap (λ (l : List Bool). is_touched l line) touched) ∙ untouched)
+returns-clause-told c = λ before.
+    all_told c.packed.inside.lines c.unpack.new.self.rows before _ (ap (λ (g : Grid). g.origins) c.unpack.ensures ∙ c.packed.invariant.shown_origins)

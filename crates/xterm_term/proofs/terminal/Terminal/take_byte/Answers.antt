@@ -1,7 +1,7 @@
 use Rattle.std.proofs.Common.{sym, ap, subst, ◌∙◌}
 use Rattle.std.proofs.lemmas.Bool.{false≢true}
 use Rattle.plays.specs.Sink.{after_sending, HasRoom, KeepsFront}
-use Rattle.xterm_term.specs.Seen.{Seen, Shows, seen_of}
+use Rattle.xterm_term.specs.Seen.{Seen, Shows, Told, seen_of}
 use Rattle.xterm_term.proofs.Sinks.{keeps_itself, keeps_after}
 use Rattle.xterm_term.proofs.Told.{told_step, told_reply, sound_terminal}
 use Rattle.xterm_term.proofs.terminal.Terminal.take_byte.Goals as goal
@@ -42,3 +42,9 @@ returns-in_err-read_byte-clause-room c x shows room =
     let shown : Shows seen x = subst (λ (t : Seen). Shows t x) (sym c.self.view_is) shows in
     absurd (false≢true (c.in_err-read_byte.ensures.room x.sequence shown.state
     (subst (HasRoom c.args.sink.now) (sym (told_reply seen x c.args.byte shown)) room)))
+
+pub returns-clause-told : goal.returns-clause-told
+returns-clause-told c = λ before was. c.read_byte.ensures.told before (subst (λ (s : Seen). Told before s) (sym c.self.view_is) was)
+
+pub returns-in_err-read_byte-clause-told : goal.returns-in_err-read_byte-clause-told
+returns-in_err-read_byte-clause-told c = λ before was. c.read_byte.ensures.told before (subst (λ (s : Seen). Told before s) (sym c.self.view_is) was)

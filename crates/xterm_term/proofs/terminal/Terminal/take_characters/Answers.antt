@@ -1,5 +1,5 @@
-use Rattle.std.proofs.Common.{◌+◌, List, ℕ, refl, take}
-use Rattle.xterm_term.specs.Seen.{Seen, seen_of}
+use Rattle.std.proofs.Common.{◌+◌, List, ℕ, refl, subst, sym, take}
+use Rattle.xterm_term.specs.Seen.{Seen, Told, seen_of}
 use Rattle.xterm_term.specs.Term.{play, sent}
 use Rattle.xterm_term.proofs.SpelledLemmas.{first_brings, first_titled}
 use Rattle.xterm_term.proofs.Idle.{brought, brought_silent, brought_terminal, brought_size}
@@ -58,3 +58,6 @@ returns-in-Some-clause-title c =
     let before : Seen = seen_of c.self.inside.console c.self.inside.parser c.self.inside.decoder in
     first_titled before c.args.self.now c.args.bytes.now c.in-Some.len c.put_spelled.result c.in-Some.first _ c.self.view_is c.requires.title
     c.in-Some.ensures.spelled c.put_spelled.ensures.done
+
+pub returns-in-Some-clause-told : goal.returns-in-Some-clause-told
+returns-in-Some-clause-told c = λ before was. c.put_spelled.ensures.told before (subst (λ (s : Seen). Told before s) (sym c.self.view_is) was)

@@ -1,0 +1,54 @@
+use Rattle.std.proofs.Common.{◌≡◌, ◌+◌, ◌-◌, ◌≤◌, ◌∙◌, List, ap, arith, inl, inr, length, subst, sym}
+use Rattle.std.proofs.lemmas.Bool.{cases_lt}
+use Rattle.sheet.specs.Cells.{Cell}
+use Rattle.sheet.specs.Grid.{row_at}
+use Rattle.xterm_print.specs.ChangeLines.{is_changed}
+use Rattle.xterm_print.specs.Kept.{Follows}
+use Rattle.xterm_print.proofs.KeptLemmas.{some_differ}
+use Rattle.xterm_print.proofs.TurnedLemmas.{moved_changed, other_changed, row_moved}
+use Rattle.xterm_print.proofs.moved.catch_up_moved.Goals as goal
+
+pub returns-clause-before : goal.returns-clause-before
+returns-clause-before c = λ k here below.
+    c.catch_up_lines.ensures.before k here (omega (arith, below, c.moved_end-end.ensures.some)) ∙ c.move_rows.ensures.before k here below
+
+pub returns-clause-behind : goal.returns-clause-behind
+returns-clause-behind c = λ k above. c.catch_up_lines.ensures.behind k above ∙ c.move_rows.ensures.behind k above
+
+pub returns-clause-changed : goal.returns-clause-changed
+returns-clause-changed c = λ before marked follow so_far.
+    let after = c.args.screen.now.picture.rows in
+    let told = marked.move (some_differ before after c.args.line c.args.changed.now.items so_far c.requires.differ) in
+    let origins = c.args.screen.now.origins in
+    let columns = c.args.screen.now.picture.columns in
+    let kept = c.args.rows.now in
+    let end = c.moved_end-end.result in
+    let shift = c.args.shift in
+    let p = is_changed before after in
+    c.push_renewed.ensures.changed p (λ k low high. other_changed before after origins told kept columns k (follow k (omega (arith, low, c.moved_end-end.ensures.some)) high))
+    (c.push_moved.ensures.changed p
+    (λ k low high. moved_changed before after origins told kept columns k (follow k low (omega (arith, high))) shift (omega (arith, low, c.requires.low)) (c.moved_end-end.ensures.moved k low high)
+    (follow (k + shift) (omega (arith, low)) (omega (arith, high))))
+    so_far)
+
+pub returns-clause-caught : goal.returns-clause-caught
+returns-clause-caught c = λ before marked follow so_far k low high.
+    let after = c.args.screen.now.picture.rows in
+    let told = marked.move (some_differ before after c.args.line c.args.changed.now.items so_far c.requires.differ) in
+    let columns = c.args.screen.now.picture.columns in
+    let end = c.moved_end-end.result in
+    let shift = c.args.shift in
+    let some = c.moved_end-end.ensures.some in
+    let one = c.requires.low in
+    elim (cases_lt k end) [
+      | inl moved ↦
+          let here : 1 ≤ k = omega (arith, low, one) in
+          let row = c.catch_up_lines.ensures.before k here moved ∙ c.move_rows.ensures.moved k low moved in
+          subst (λ r. Follows columns r (row_at after k)) (sym row)
+          (subst (Follows columns (row_at c.args.rows.now (k + shift))) (sym (row_moved before after c.args.screen.now.origins told k shift here (c.moved_end-end.ensures.moved k low moved)))
+          (follow (k + shift) (omega (arith, low)) (omega (arith, moved))))
+      | inr over ↦
+          let was = c.move_rows.ensures.turned k over high in
+          let wide = follow (k + c.args.line - end) (omega (arith, over, some)) (omega (arith, high, some, over)) in
+          c.catch_up_lines.ensures.caught k over high (ap length was ∙ wide.columns)
+    ]

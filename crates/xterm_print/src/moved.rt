@@ -1,0 +1,173 @@
+//! Rows that are kept of a sheet whose own rows moved up.
+
+ghost use Rattle.std.specs.Prelude.{◌≡◌, ◌+◌, ◌-◌, ◌<◌, ◌≤◌, ℕ, Bool, List, filter, length, not};
+ghost use Rattle.std.specs.List.{range_with_len};
+ghost use Rattle.sheet.specs.Cells.{Cell};
+ghost use Rattle.sheet.specs.Grid.{origin_of, row_at};
+ghost use Rattle.xterm_screen.specs.Picture.{Tells};
+ghost use Rattle.xterm_print.specs.ChangeLines.{is_changed, same_row};
+ghost use Rattle.xterm_print.specs.Kept.{FollowLines, Follows};
+
+use crate::kept::{KeptRow, ROWS};
+use arrayvec::ArrayVec;
+use xterm_screen::Screen;
+
+/// By how many lines the row of a line moved up; 0 where it didn't, or where that isn't known.
+pub(crate) fn moved_up(screen: &Screen, line: u16) -> u16
+    requires low { 1 ≤ line }
+    requires high { line ≤ screen.now.picture.lines }
+    ensures within { line + result ≤ screen.now.picture.lines }
+    ensures origin { 0 < result → origin_of screen.now.origins line ≡ line + result }
+{
+    let origin = screen.origin(line);
+    if line < origin && origin <= screen.lines() {
+        origin - line
+    } else {
+        0
+    }
+}
+
+/// Where the lines end, from one on, whose rows moved up by as many lines as its own.
+fn moved_end(screen: &Screen, line: u16, shift: u16) -> u16
+    requires low { 1 ≤ line }
+    requires high { line + shift ≤ screen.now.picture.lines }
+    requires some { 0 < shift }
+    requires origin { origin_of screen.now.origins line ≡ line + shift }
+    ensures some { line < result }
+    ensures within { result + shift ≤ screen.now.picture.lines + 1 }
+    ensures moved { (k : ℕ) → line ≤ k → k < result → origin_of screen.now.origins k ≡ k + shift }
+{
+    let lines = screen.lines();
+    let mut end = line + 1;
+    while end <= lines && moved_up(screen, end) == shift {
+        end += 1;
+    }
+    end
+}
+
+/// Adds those of some lines whose rows differ from the ones so many lines further down.
+fn push_moved(rows: &[KeptRow], from: u16, to: u16, shift: u16, changed: &mut ArrayVec<u16, ROWS>)
+    requires low { 1 ≤ from }
+    requires apart { from ≤ to }
+    requires high { to + shift ≤ length rows.now + 1 }
+    requires most { length rows.now ≤ ROWS }
+    requires few { length changed.old.items + 1 ≤ from }
+    ensures few { length changed.new.items + 1 ≤ to }
+    ensures changed { (p : ℕ → Bool) → ((k : ℕ) → from ≤ k → k < to → p k
+        ≡ not (same_row (row_at rows.now k) (row_at rows.now (k + shift))))
+        → changed.old.items ≡ filter p (range_with_len 1 (from - 1))
+        → changed.new.items ≡ filter p (range_with_len 1 (to - 1)) }
+{
+    for line in from..to {
+        let place = line as usize - 1;
+        let other = place + shift as usize;
+        let (row, moved) = (&rows[place], &rows[other]);
+        if !row.is_same_row(moved) {
+            changed.push(line);
+        }
+    }
+}
+
+/// Adds those of some lines whose rows differ from the ones that are shown.
+fn push_renewed(
+    rows: &[KeptRow],
+    screen: &Screen,
+    from: u16,
+    to: u16,
+    changed: &mut ArrayVec<u16, ROWS>,
+)
+    requires rows { length rows.now ≡ screen.now.picture.lines }
+    requires low { 1 ≤ from }
+    requires apart { from ≤ to }
+    requires high { to ≤ screen.now.picture.lines + 1 }
+    requires few { length changed.old.items + 1 ≤ from }
+    ensures few { length changed.new.items + 1 ≤ to }
+    ensures changed { (p : ℕ → Bool) → ((k : ℕ) → from ≤ k → k < to → p k
+        ≡ not (same_row (row_at rows.now k) (row_at screen.now.picture.rows k)))
+        → changed.old.items ≡ filter p (range_with_len 1 (from - 1))
+        → changed.new.items ≡ filter p (range_with_len 1 (to - 1)) }
+{
+    let _cursor = screen.cursor();
+    for line in from..to {
+        let kept = &rows[line as usize - 1];
+        if !kept.is_same(screen.row(line), screen.used(line)) {
+            changed.push(line);
+        }
+    }
+}
+
+/// Rows move up by so many lines; those that they go over come behind them.
+fn move_rows(rows: &mut [KeptRow], from: u16, to: u16, shift: u16)
+    requires low { 1 ≤ from }
+    requires apart { from ≤ to }
+    requires high { to + shift ≤ length rows.old + 1 }
+    ensures whole { length rows.new ≡ length rows.old }
+    ensures before { (k : ℕ) → 1 ≤ k → k < from → row_at rows.new k ≡ row_at rows.old k }
+    ensures moved { (k : ℕ) → from ≤ k → k < to → row_at rows.new k ≡ row_at rows.old (k + shift) }
+    ensures turned { (k : ℕ) → to ≤ k → k < to + shift → row_at rows.new k
+        ≡ row_at rows.old (k + from - to) }
+    ensures behind { (k : ℕ) → to + shift ≤ k → row_at rows.new k ≡ row_at rows.old k }
+{
+    let (from, to, shift) = (from as usize - 1, to as usize - 1, shift as usize);
+    rows[from..to + shift].rotate_left(shift);
+}
+
+/// Some rows become those that are shown.
+fn catch_up_lines(rows: &mut [KeptRow], screen: &Screen, from: u16, to: u16)
+    requires rows { length rows.old ≡ screen.now.picture.lines }
+    requires low { 1 ≤ from }
+    requires apart { from ≤ to }
+    requires high { to ≤ screen.now.picture.lines + 1 }
+    ensures whole { length rows.new ≡ length rows.old }
+    ensures before { (k : ℕ) → 1 ≤ k → k < from → row_at rows.new k ≡ row_at rows.old k }
+    ensures caught { (k : ℕ) → from ≤ k → k < to
+        → length (row_at rows.old k) ≡ screen.now.picture.columns
+        → Follows screen.now.picture.columns (row_at rows.new k) (row_at screen.now.picture.rows k) }
+    ensures behind { (k : ℕ) → to ≤ k → row_at rows.new k ≡ row_at rows.old k }
+{
+    let _cursor = screen.cursor();
+    for line in from..to {
+        let row = &mut rows[line as usize - 1];
+        row.catch_up(screen.row(line), screen.used(line));
+    }
+}
+
+/// The lines from one on whose rows moved up by so many lines, and as many lines behind them, follow those that are
+/// shown then; adds those that differ, and tells where they end. Some line differs, so that the marks tell what moved.
+pub(crate) fn catch_up_moved(
+    rows: &mut [KeptRow],
+    screen: &Screen,
+    line: u16,
+    shift: u16,
+    changed: &mut ArrayVec<u16, ROWS>,
+) -> u16
+    requires rows { length rows.old ≡ screen.now.picture.lines }
+    requires low { 1 ≤ line }
+    requires high { line + shift ≤ screen.now.picture.lines }
+    requires some { 0 < shift }
+    requires origin { origin_of screen.now.origins line ≡ line + shift }
+    requires few { length changed.old.items + 1 ≤ line }
+    requires differ { 0 < length changed.old.items }
+    ensures low { line < result }
+    ensures high { result ≤ screen.now.picture.lines + 1 }
+    ensures whole { length rows.new ≡ length rows.old }
+    ensures few { length changed.new.items + 1 ≤ result }
+    ensures before { (k : ℕ) → 1 ≤ k → k < line → row_at rows.new k ≡ row_at rows.old k }
+    ensures behind { (k : ℕ) → result ≤ k → row_at rows.new k ≡ row_at rows.old k }
+    ensures changed { (before : List (List Cell)) → Tells before screen.now
+        → FollowLines line result screen.now.picture.columns rows.old before
+        → changed.old.items ≡ filter (is_changed before screen.now.picture.rows) (range_with_len 1 (line - 1))
+        → changed.new.items ≡ filter (is_changed before screen.now.picture.rows) (range_with_len 1 (result - 1)) }
+    ensures caught { (before : List (List Cell)) → Tells before screen.now
+        → FollowLines line result screen.now.picture.columns rows.old before
+        → changed.old.items ≡ filter (is_changed before screen.now.picture.rows) (range_with_len 1 (line - 1))
+        → FollowLines line result screen.now.picture.columns rows.new screen.now.picture.rows }
+{
+    let _cursor = screen.cursor();
+    let end = moved_end(screen, line, shift);
+    push_moved(rows, line, end, shift, changed);
+    push_renewed(rows, screen, end, end + shift, changed);
+    move_rows(rows, line, end, shift);
+    catch_up_lines(rows, screen, end, end + shift);
+    end + shift
+}
