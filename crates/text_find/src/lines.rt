@@ -274,8 +274,32 @@ fn put_if_less<W: Write>(
     Ok(())
 }
 
-/// Writes what went in a chunk and what came, by what stands at its ends, where nothing passes inside it.
+/// Writes what went in a chunk and what came, by what stands at its ends, where nothing passes inside it. Where the text stands
+/// at both, the places that stand alone are looked for once.
 pub(crate) fn put_ends<W: Write>(
+    alloc: Global,
+    moment: Moment,
+    ends: &Sides,
+    writer: &mut Watched<W>,
+) -> Result<(), OutOfMemory>
+    ensures gave { (text : List ℕ) (one other : List Row) → length text ≡ moment.len → AreBetween text one other ends.now
+        → OnOk result (Gave W.contents writer.old writer.new (end_lines moment.index moment.due moment.len
+        ends.now.before.rows.items ends.now.before.places.items ends.now.after.rows.items ends.now.after.places.items)) }
+    ensures front { (text : List ℕ) (one other : List Row) → length text ≡ moment.len → AreBetween text one other ends.now
+        → OnErr result (Began W.contents writer.old writer.new (end_lines moment.index moment.due moment.len
+        ends.now.before.rows.items ends.now.before.places.items ends.now.after.rows.items ends.now.after.places.items)) }
+{
+    if ends.before.places.is_empty() || ends.after.places.is_empty() {
+        return put_apart(alloc, moment, ends, writer);
+    }
+    match Alone::of(alloc, &ends.before, &ends.after, ends.lag, moment.len) {
+        Ok(alone) => put_both(alloc, moment, ends, alone, writer),
+        Err(_) => put_apart(alloc, moment, ends, writer),
+    }
+}
+
+/// The same, first what went, and then what came.
+fn put_apart<W: Write>(
     alloc: Global,
     moment: Moment,
     ends: &Sides,
@@ -291,6 +315,31 @@ pub(crate) fn put_ends<W: Write>(
     gives_join::<W>();
     put_gone(alloc, moment, ends, writer)?;
     put_come(alloc, moment, ends, writer)?;
+    Ok(())
+}
+
+/// The same by the places of both ends that stand alone.
+fn put_both<W: Write>(
+    alloc: Global,
+    moment: Moment,
+    ends: &Sides,
+    alone: Alone,
+    writer: &mut Watched<W>,
+) -> Result<(), OutOfMemory>
+    ensures gave { PairOff ends.now.before.rows.items ends.now.before.places.items
+        ends.now.after.rows.items ends.now.after.places.items alone.one.items alone.other.items
+        → OnOk result (Gave W.contents writer.old writer.new (end_lines moment.index moment.due moment.len
+        ends.now.before.rows.items ends.now.before.places.items ends.now.after.rows.items ends.now.after.places.items)) }
+    ensures front { PairOff ends.now.before.rows.items ends.now.before.places.items
+        ends.now.after.rows.items ends.now.after.places.items alone.one.items alone.other.items
+        → OnErr result (Began W.contents writer.old writer.new (end_lines moment.index moment.due moment.len
+        ends.now.before.rows.items ends.now.before.places.items ends.now.after.rows.items ends.now.after.places.items)) }
+{
+    gives_join::<W>();
+    let (before, after) = (&ends.before, &ends.after);
+    put_less(alloc, b'-', moment, before, after, &alone, writer)?;
+    let turned = alone.turned();
+    put_less(alloc, b'+', moment, after, before, &turned, writer)?;
     Ok(())
 }
 
