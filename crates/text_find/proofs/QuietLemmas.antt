@@ -8,6 +8,9 @@ use Rattle.standings.specs.Standing.{standing}
 use Rattle.standings.specs.declared.place.Place.{Place}
 use Rattle.standings.proofs.KeptLemmas.{keeps_on, keeps_same}
 use Rattle.text_find.specs.FindLines.{rows_within}
+use Rattle.text_find.specs.Foretold.{KeepsIn, taken_by}
+use Rattle.text_find.specs.declared.foretold.Foretold.{Foretold}
+use Rattle.text_find.specs.declared.foretold.Foretold.TheVariants.{MovesUp, MovesWithin, Types, Writes}
 use Rattle.text_find.specs.Lines.{byte_lines, passed_lines}
 use Rattle.text_find.specs.Pieces.{AreQuiet}
 use Rattle.text_find.proofs.BeganLemmas.{first_more}
@@ -32,6 +35,19 @@ still_quiet text screen before bytes taken same = record {
     | inr ge ↦ inl (let none : taken - 1 ≡ 0 = omega (arith, ge) in ap (rows_within screen before bytes) none)
   ];
 }
+
+-- and bytes of which it is foretold what they do
+pub foretold_quiet : (text : List ℕ) (screen : List ℕ → List Row) (before bytes : List ℕ) (foretold : Foretold) → 0 < taken_by foretold
+    → KeepsIn text screen before bytes foretold → AreQuiet text screen before bytes (taken_by foretold)
+foretold_quiet text screen before bytes (MovesUp columns) some keeps = one_quiet text screen before bytes
+foretold_quiet text screen before bytes (MovesWithin region) some keeps = still_quiet text screen before bytes region.taken keeps
+foretold_quiet text screen before bytes (Writes written) some keeps = record {
+  inside = λ count lt. keeps count (omega (arith, lt));
+  last =
+      let next : written.taken - 1 + 1 ≡ written.taken = omega (arith, some) in
+      inr (subst (λ n. Keeps text (rows_within screen before bytes (written.taken - 1)) (rows_within screen before bytes n)) next (keeps (written.taken - 1) (omega (arith, some))));
+}
+foretold_quiet text screen before bytes (Types written) some keeps = one_quiet text screen before bytes
 
 pub texts_none : (f : ℕ → List ℕ) (start n : ℕ) → ((k : ℕ) → start ≤ k → k < start + n → f k ≡ []) → texts_from f 0 (start + n) ≡ texts_from f 0 start
 texts_none f start zero none = let all : start + 0 ≡ start = omega arith in ap (texts_from f 0) all

@@ -1,12 +1,16 @@
 //! A chunk of which it is told what came and went inside it.
 
-ghost use Rattle.std.specs.Prelude.{◌≡◌, ◌++◌, ◌∷◌, [], List, ℕ, length, OnErr, OnOk};
+ghost use Rattle.std.specs.Prelude.{◌≡◌, ◌++◌, ◌<◌, ◌≤◌, List, ℕ, length, take, IfOk, OnErr, OnOk};
 ghost use Rattle.std.specs.List.{flat_map, range_with_len};
+ghost use Rattle.standings.specs.Rows.{Row};
 ghost use Rattle.standings.specs.Standing.{standing};
 ghost use Rattle.tape_core.specs.Devices.{Gave};
 ghost use Rattle.text_find.specs.Lines.{AreBetween, AreStill, Began, byte_lines, chunk_lines, passed_lines};
+ghost use Rattle.text_find.specs.Pieces.{AreQuiet};
 
+use crate::ahead::play;
 use crate::finder::Finder;
+use crate::foretold::{LetterRun, foresee_side};
 use crate::lines::{put_come, put_gone, put_passed};
 use crate::sides::{Sides, catch_up, settle};
 use plays::{OutOfMemory, Plays};
@@ -84,49 +88,78 @@ fn put_bytes<T: Plays, F: Finder<T>, W: Write>(
         → OnOk result (AreStill text.now (F.screens profile (before ++ bytes.now)) steps.new) }
 {
     gives_join::<W>();
+    let mut letters = LetterRun::new();
     let mut at = 0;
     while at < bytes.len() {
-        let taken = F::play_quietly(alloc, behind, text, &steps.before, &bytes[at..])?;
-        put_byte::<T, F, W>(alloc, text, moment, ends, steps, behind, writer)?;
+        let rest = &bytes[at..];
+        let taken = play_step::<T, F>(alloc, text, rest, &mut letters, steps, behind)?;
+        put_step(alloc, moment, ends, steps, writer)?;
         at += taken;
     }
     Ok(())
 }
 
-/// Writes what went at bytes that were played at once, by what stood before them and by the terminal after them. Mostly no
-/// row was touched, or the text stood nowhere.
-fn put_byte<T: Plays, F: Finder<T>, W: Write>(
+/// Plays a beginning of the bytes, at which nothing of the text goes but maybe at the last one. What stands after is what
+/// stands behind it: by what is foretold of it, where something is. Says how many bytes.
+fn play_step<T: Plays, F: Finder<T>>(
     alloc: Global,
     text: &[char],
+    bytes: &[u8],
+    letters: &mut LetterRun,
+    steps: &mut Sides,
+    behind: &mut T,
+) -> Result<usize, OutOfMemory>
+    requires some { 0 < length bytes.now }
+    ensures some { IfOk result (λ taken. 0 < taken) }
+    ensures within { IfOk result (λ taken. taken ≤ length bytes.now) }
+    ensures shows { (profile : T.Profile) (before : List ℕ) → T.shows profile behind.old before
+        → IfOk result (λ taken. T.shows profile behind.new (before ++ take taken bytes.now)) }
+    ensures quiet { (profile : T.Profile) (before : List ℕ) → T.shows profile behind.old before
+        → AreStill text.now (F.screens profile before) steps.old
+        → IfOk result (λ taken. AreQuiet text.now (F.screens profile) before bytes.now taken) }
+    ensures between { (profile : T.Profile) (before : List ℕ) → T.shows profile behind.old before
+        → AreStill text.now (F.screens profile before) steps.old
+        → IfOk result (λ taken. AreBetween text.now (F.screens profile before)
+        (F.screens profile (before ++ take taken bytes.now)) steps.new) }
+{
+    let Some(foretold) = F::foretells(behind, text, &steps.before, bytes, letters) else {
+        let taken = F::play_quietly(alloc, behind, text, &steps.before, bytes)?;
+        catch_up::<T, F>(steps, behind, text)?;
+        return Ok(taken);
+    };
+    let taken = foretold.taken();
+    play(alloc, behind, &bytes[..taken])?;
+    let lag = steps.lag;
+    foresee_side(foretold, letters.as_slice(), text, steps, lag)?;
+    Ok(taken)
+}
+
+/// Writes what went between what stands before and after some bytes. Mostly no row was touched, or the text stood nowhere.
+fn put_step<W: Write>(
+    alloc: Global,
     moment: Moment,
     ends: &Sides,
     steps: &mut Sides,
-    terminal: &T,
     writer: &mut Watched<W>,
 ) -> Result<(), OutOfMemory>
-    requires { moment.len ≡ length text.now }
-    ensures gave { (profile : T.Profile) (before after : List ℕ) → T.shows profile terminal.now after
-        → T.told profile terminal.now before → AreStill text.now (F.screens profile before) steps.old
+    ensures gave { (text : List ℕ) (one other : List Row) → length text ≡ moment.len
+        → AreBetween text one other steps.old
         → OnOk result (Gave W.contents writer.old writer.new
         (passed_lines moment.index moment.due moment.len
         ends.now.before.rows.items ends.now.before.places.items
         ends.now.after.rows.items ends.now.after.places.items
-        (F.screens profile before) (standing text.now (F.screens profile before))
-        (F.screens profile after) (standing text.now (F.screens profile after)))) }
-    ensures front { (profile : T.Profile) (before after : List ℕ) → T.shows profile terminal.now after
-        → T.told profile terminal.now before → AreStill text.now (F.screens profile before) steps.old
+        one (standing text one) other (standing text other))) }
+    ensures front { (text : List ℕ) (one other : List Row) → length text ≡ moment.len
+        → AreBetween text one other steps.old
         → OnErr result (Began W.contents writer.old writer.new
         (passed_lines moment.index moment.due moment.len
         ends.now.before.rows.items ends.now.before.places.items
         ends.now.after.rows.items ends.now.after.places.items
-        (F.screens profile before) (standing text.now (F.screens profile before))
-        (F.screens profile after) (standing text.now (F.screens profile after)))) }
-    ensures steps { (profile : T.Profile) (before after : List ℕ) → T.shows profile terminal.now after
-        → T.told profile terminal.now before → AreStill text.now (F.screens profile before) steps.old
-        → OnOk result (AreStill text.now (F.screens profile after) steps.new) }
+        one (standing text one) other (standing text other))) }
+    ensures still { (text : List ℕ) (one other : List Row) → AreBetween text one other steps.old
+        → OnOk result (AreStill text other steps.new) }
 {
     gives_join::<W>();
-    catch_up::<T, F>(steps, terminal, text)?;
     if steps.lag.is_none() {
         return Ok(());
     }

@@ -93,8 +93,8 @@ pub trait Finder<T: Plays> {
     }
 
     /// What the first of the bytes surely do to the rows of a terminal that shows these rows, on which the text stands
-    /// there; where they write, nothing of the text goes at them, and the letters become what they write; where they move
-    /// rows between margins none changes before the last of them.
+    /// there; where they write, nothing of the text goes at them but where they are one byte, and the letters become what
+    /// they write; where they move rows between margins none changes before the last of them.
     fn foretells(
         terminal: &T,
         text: &[char],

@@ -55,17 +55,20 @@ pub enum Foretold {
     MovesWithin(Region),
     /// Letters are written over characters.
     Writes(Written),
+    /// The first byte writes a letter over a character, whatever of the text goes at it.
+    Types(Written),
 }
 
 impl Foretold {
     /// How many bytes it is foretold of.
-    fn taken(self) -> usize
+    pub(crate) fn taken(self) -> usize
         ensures { result ≡ taken_by self }
     {
         match self {
             Foretold::MovesUp(_) => 1,
             Foretold::MovesWithin(region) => region.taken,
             Foretold::Writes(written) => written.taken,
+            Foretold::Types(_) => 1,
         }
     }
 
@@ -86,6 +89,7 @@ impl Foretold {
             Foretold::MovesUp(_) => stays_moved(still),
             Foretold::MovesWithin(_) => still.places.is_empty(),
             Foretold::Writes(_) => true,
+            Foretold::Types(_) => still.places.is_empty(),
         }
     }
 
@@ -157,11 +161,32 @@ fn change(
         → AreBetween text.now first before ends.old
         → OnOk result (AreBetween text.now first after ends.new) }
 {
-    let count = ends.after.rows.len();
-    let span = foresee(&mut ends.after, foretold, letters, text)?;
-    ends.lag = foretold.lagging(ends.lag, count, span);
-    steps.lag = foretold.lagging(steps.lag, count, span);
+    let lag = steps.lag;
+    steps.lag = foresee_side(foretold, letters, text, ends, lag)?;
     Ok(())
+}
+
+/// The same of a screen alone. Says how rows lag behind it then that lagged so behind it before.
+pub(crate) fn foresee_side(
+    foretold: Foretold,
+    letters: &[char],
+    text: &[char],
+    sides: &mut Sides,
+    lag: Lag,
+) -> Result<Lag, OutOfMemory>
+    requires { IsNarrow foretold }
+    ensures before { sides.new.before ≡ sides.old.before }
+    ensures lags { (rows : List Row) → Lags lag rows sides.old.after.rows.items
+        → IfOk result (λ later. Lags later rows sides.new.after.rows.items) }
+    ensures between { (first before after : List Row) → HasRoom foretold letters.now before
+        → after ≡ foretold_rows foretold letters.now before
+        → AreBetween text.now first before sides.old
+        → OnOk result (AreBetween text.now first after sides.new) }
+{
+    let count = sides.after.rows.len();
+    let span = foresee(&mut sides.after, foretold, letters, text)?;
+    sides.lag = foretold.lagging(sides.lag, count, span);
+    Ok(foretold.lagging(lag, count, span))
 }
 
 /// Rows become those that are foretold; looks where the text stands then. Says which rows may differ.
@@ -185,7 +210,7 @@ fn foresee(
             let columns = region.columns;
             Ok(still.move_within(region.from, region.to, columns, region.down, text)?)
         }
-        Foretold::Writes(written) => {
+        Foretold::Writes(written) | Foretold::Types(written) => {
             Ok(still.write(written.above, written.before, letters, text)?)
         }
     }

@@ -1,6 +1,6 @@
 -- How much of a chunk is played before a text is looked for again, and what its rows are then.
 use Rattle.std.proofs.Common.{◌≡◌, ℕ, zero, suc, ◌+◌, ◌-◌, ◌<◌, ◌≤◌, List, [], ◌++◌, drop, get_or, length, take, refl, ap, ap₂, subst, sym, ◌∙◌, arith, inl, inr}
-use Rattle.std.proofs.lemmas.List.{append-nil, get_or-drop, get_or-take}
+use Rattle.std.proofs.lemmas.List.{append-nil, get_or-drop, get_or-take, take-take}
 use Rattle.sheet.specs.declared.rendition.Colour.TheVariants.{Default}
 use Rattle.sheet.specs.Cells.{Cell, blank}
 use Rattle.sheet.specs.Grid.{row_at}
@@ -10,7 +10,7 @@ use Rattle.standings.specs.Standing.{standing}
 use Rattle.standings.specs.Written.{rows_written}
 use Rattle.standings.proofs.KeptLemmas.{keeps_same}
 use Rattle.text_find.specs.declared.foretold.Foretold.{Foretold}
-use Rattle.text_find.specs.declared.foretold.Foretold.TheVariants.{MovesUp, MovesWithin, Writes}
+use Rattle.text_find.specs.declared.foretold.Foretold.TheVariants.{MovesUp, MovesWithin, Types, Writes}
 use Rattle.text_find.specs.declared.foretold.Written.{Written}
 use Rattle.text_find.specs.Foretold.{HasRoom, IsForetold, KeepsIn, foretold_rows, taken_by}
 use Rattle.text_find.specs.Pieces.{AreQuiet}
@@ -68,14 +68,6 @@ unshown_quiet x text bytes unshown n few same =
       last = inl (start (n - 1) (omega (arith, few)));
     }
 
-pub stays_quiet : (x : Term) (text bytes : List ℕ) (n : ℕ) → 0 < n → StaysOn text x bytes n → IsQuiet text x bytes n
-stays_quiet x text bytes n some stays =
-    let all : n - 1 + 1 ≡ n = omega (arith, some) in
-    record {
-      inside = λ count lt. stays count (omega (arith, lt));
-      last = inr (subst (λ m. Keeps text (rows_behind x bytes (n - 1)) (rows_behind x bytes m)) all (stays (n - 1) (omega (arith, some))));
-    }
-
 -- what is foretold of a run, by the rows of the term
 pub run_foretold : (x : Term) (text bytes letters : List ℕ) (written : Written) → written.above ≡ x.console.picture.line - 1 → written.before ≡ length (left_of_cursor x)
     → Sound x.console.picture → WritesOver x bytes letters written.taken → StaysOn text x bytes written.taken
@@ -90,6 +82,22 @@ run_foretold x text bytes letters written above before sound over stays =
             (subst (λ n. length (left_of_cursor x) + length letters ≤ length (row_below rows n).characters) (sym above) over.room),
       );
       keeps = stays;
+    }
+
+-- and of the first letter
+pub letter_foretold : (x : Term) (text bytes letters : List ℕ) (taken : ℕ) (written : Written) → written.above ≡ x.console.picture.line - 1 → written.before ≡ length (left_of_cursor x)
+    → Sound x.console.picture → taken ≡ 1 → WritesOver x (take 1 bytes) letters taken → IsForetold text (rows_after x) [] bytes (Types written) letters
+letter_foretold x text bytes letters taken written above before sound one over =
+    let rows = rows_behind x [] 0 in
+    record {
+      rows = ap (rows_after x) (sym (take-take 1 1 bytes (omega arith)) ∙ ap (λ n. take n (take 1 bytes)) (sym one))
+          ∙ over.rows ∙ ap₂ (λ a b. rows_written a b letters rows) (sym above) (sym before);
+      room = (
+        subst (λ n. n < length rows) (sym above) (line_behind x sound),
+        subst (λ n. n + length letters ≤ length (row_below rows written.above).characters) (sym before)
+            (subst (λ n. length (left_of_cursor x) + length letters ≤ length (row_below rows n).characters) (sym above) over.room),
+      );
+      keeps = tt;
     }
 
 -- ---- the rows that a finder tells of
@@ -139,6 +147,7 @@ module _ (size_law : SizeStays) (parts : PlaysInParts) (size : Size) (text befor
       let at = λ (k : ℕ). after_is size_law parts size before (take k bytes) in
       at count ∙ keeps count lt ∙ sym (at 0)
   keep_told (Writes written) keeps = λ count lt. keeps_told count (count + 1) (keeps count lt)
+  keep_told (Types written) keeps = keeps
 
   pub foretold_told : (foretold : Foretold) (letters : List ℕ) → IsForetold text (rows_after begun) [] bytes foretold letters
       → IsForetold text (rows_shown size) before bytes foretold letters

@@ -109,7 +109,9 @@ impl Finder<Terminal> for Sheets {
     ) -> Result<usize, OutOfMemory> {
         size_stays();
         plays_in_parts();
-        let taken = quiet_piece(terminal, text, still, bytes);
+        // What is foretold was asked before.
+        let _unread = (text.len(), still.rows.len());
+        let taken = quiet_piece(terminal, bytes);
         let mut sink = Reports::new(alloc);
         Plays::feed(terminal, &bytes[..taken], &mut sink)?;
         Ok(taken)

@@ -13,7 +13,7 @@ ghost use Rattle.xterm_screen.specs.Picture.{Sound};
 ghost use Rattle.xterm_term.specs.Ahead.{WritesStyled};
 ghost use Rattle.xterm_term.specs.Seen.{Shows};
 ghost use Rattle.xterm_term.specs.Term.{Term};
-ghost use Rattle.text_find.specs.declared.foretold.Foretold.TheVariants.{Writes};
+ghost use Rattle.text_find.specs.declared.foretold.Foretold.TheVariants.{Types, Writes};
 ghost use Rattle.xterm_print.specs.FindRows.{row_read};
 ghost use Rattle.xterm_print.specs.Pieces.{EndsLeft, IsQuiet, NoneBetween, left_of_cursor, rows_after, rows_behind};
 
@@ -49,22 +49,14 @@ pub(crate) fn piece(terminal: &Terminal, bytes: &[u8]) -> usize
     1
 }
 
-/// How many of the bytes to play at once on a terminal that shows these rows, on which the text stands there: nothing of it
-/// goes at them but maybe at the last one, up to which the rows are the same then.
+/// How many of the bytes to play at once on a terminal where a text stands: nothing of it goes at them but maybe at the last
+/// one, up to which the rows are the same then. Of letters more is foretold.
 #[inline(always)]
-pub(crate) fn quiet_piece(
-    terminal: &Terminal,
-    text: &[char],
-    still: &Standing,
-    bytes: &[u8],
-) -> usize
+pub(crate) fn quiet_piece(terminal: &Terminal, bytes: &[u8]) -> usize
     requires { 0 < length bytes.now }
     ensures some { 0 < result }
     ensures within { result ≤ length bytes.now }
-    ensures quiet { (x : Term) → Shows terminal.now x
-        → still.now.rows.items ≡ rows_behind x [] 0
-        → still.now.places.items ≡ standing text.now (rows_behind x [] 0)
-        → IsQuiet text.now x bytes.now result }
+    ensures quiet { (text : List ℕ) (x : Term) → Shows terminal.now x → IsQuiet text x bytes.now result }
 {
     if is_control(bytes[0]) {
         return 1;
@@ -73,33 +65,14 @@ pub(crate) fn quiet_piece(
     if unshown > 0 {
         return (unshown + 1).min(bytes.len());
     }
-    if !may_be_letter(bytes) {
-        return 1;
-    }
-    quiet_letters(terminal, text, still, bytes)
-}
-
-/// The same of bytes that may begin with a letter.
-#[inline(never)]
-fn quiet_letters(terminal: &Terminal, text: &[char], still: &Standing, bytes: &[u8]) -> usize
-    requires { 0 < length bytes.now }
-    ensures some { 0 < result }
-    ensures within { result ≤ length bytes.now }
-    ensures quiet { (x : Term) → Shows terminal.now x
-        → still.now.rows.items ≡ rows_behind x [] 0
-        → still.now.places.items ≡ standing text.now (rows_behind x [] 0)
-        → IsQuiet text.now x bytes.now result }
-{
-    let Some(set) = set_quiet(terminal, text, still, bytes) else {
-        return 1;
-    };
-    let mut letters = LetterRun::new();
-    run_over(terminal, set, text, bytes, &mut letters).max(1)
+    1
 }
 
 /// Whether the first of the bytes may bring a character of one column: no control does, nor one of several bytes (C1).
 #[inline]
-fn may_be_letter(bytes: &[u8]) -> bool {
+fn may_be_letter(bytes: &[u8]) -> bool
+    ensures { result ≡ true → 0 < length bytes.now }
+{
     match bytes {
         [0xC2, second, ..] => *second >= 0xA0,
         [first, ..] => matches!(*first, 32..=126 | 0xC3..),
@@ -130,16 +103,46 @@ pub(crate) fn moved_up(terminal: &Terminal, bytes: &[u8]) -> Option<usize>
     Some(screen.columns() as usize)
 }
 
-/// Where the first of the bytes write letters over plain cells of the cursor's row, so that nothing of the text goes at
-/// them: the letters become these.
+/// What letters that come first write over plain cells of the cursor's row: as many as may be, where nothing of the text goes
+/// at them, and else the first one. The letters become these.
 #[inline(never)]
-fn written(
+fn lettered(
     terminal: &Terminal,
     text: &[char],
     still: &Standing,
     bytes: &[u8],
     letters: &mut LetterRun,
+) -> Option<Foretold>
+    requires { 0 < length bytes.now }
+    ensures within { IfSome result (λ foretold. IsWithin foretold (length bytes.now)) }
+    ensures foretold { (x : Term) → Shows terminal.now x
+        → still.now.rows.items ≡ rows_behind x [] 0
+        → still.now.places.items ≡ standing text.now (rows_behind x [] 0)
+        → IfSome result (λ foretold. IsForetold text.now (rows_after x) [] bytes.now foretold letters.new.items) }
+{
+    let set = set_written(terminal, bytes)?;
+    if is_quiet(terminal, text, still) {
+        let run = written(terminal, set, text, still, bytes, letters)?;
+        return Some(Foretold::Writes(run));
+    }
+    Some(Foretold::Types(typed(terminal, set, text, still, bytes, letters)?))
+}
+
+/// Where the first of the bytes write letters, so that nothing of the text goes at them.
+fn written(
+    terminal: &Terminal,
+    set: CharacterSet,
+    text: &[char],
+    still: &Standing,
+    bytes: &[u8],
+    letters: &mut LetterRun,
 ) -> Option<Written>
+    requires set { (x : Term) → Shows terminal.now x → WritesStyled set x }
+    requires some { 0 < length text.now }
+    requires ends { (x : Term) → Shows terminal.now x
+        → still.now.rows.items ≡ rows_behind x [] 0
+        → still.now.places.items ≡ standing text.now (rows_behind x [] 0)
+        → EndsLeft text.now x }
     ensures some { IfSome result (λ written. 0 < written.taken) }
     ensures within { IfSome result (λ written. written.taken ≤ length bytes.now) }
     ensures written { (x : Term) → Shows terminal.now x
@@ -147,22 +150,55 @@ fn written(
         → still.now.places.items ≡ standing text.now (rows_behind x [] 0)
         → IfSome result (λ written. IsForetold text.now (rows_after x) [] bytes.now (Writes written) letters.new.items) }
 {
-    let set = set_quiet(terminal, text, still, bytes)?;
     let taken = run_over(terminal, set, text, bytes, letters);
     if taken == 0 {
         return None;
     }
+    Some(written_at(terminal, still, taken))
+}
+
+/// Where the first of the bytes writes a letter.
+fn typed(
+    terminal: &Terminal,
+    set: CharacterSet,
+    text: &[char],
+    still: &Standing,
+    bytes: &[u8],
+    letters: &mut LetterRun,
+) -> Option<Written>
+    requires set { (x : Term) → Shows terminal.now x → WritesStyled set x }
+    requires some { 0 < length bytes.now }
+    ensures { (x : Term) → Shows terminal.now x
+        → still.now.rows.items ≡ rows_behind x [] 0
+        → IfSome result (λ written. IsForetold text.now (rows_after x) [] bytes.now (Types written) letters.new.items) }
+{
+    let taken = run_over(terminal, set, text, &bytes[..1], letters);
+    if taken == 0 {
+        return None;
+    }
+    Some(written_at(terminal, still, taken))
+}
+
+/// So many bytes that write from the cursor on, on a terminal that shows these rows.
+fn written_at(terminal: &Terminal, still: &Standing, taken: usize) -> Written
+    ensures taken { result.taken ≡ taken }
+    ensures above { (x : Term) → Shows terminal.now x → result.above ≡ x.console.picture.line - 1 }
+    ensures before { (x : Term) → Shows terminal.now x
+        → still.now.rows.items ≡ rows_behind x [] 0
+        → result.before ≡ length (left_of_cursor x) }
+    ensures sound { (x : Term) → Shows terminal.now x → Sound x.console.picture }
+{
     let (above, before) = cursor_place(terminal, still);
-    Some(Written {
+    Written {
         above,
         before,
         taken,
-    })
+    }
 }
 
 /// What the first of the bytes surely do to the rows of a terminal that shows these rows, on which the text stands there;
-/// where they write, nothing of the text goes at them, and the letters become what they write. The first byte, and of a
-/// sequence its first ones, say which question is worth to be asked: of most bytes none is.
+/// where they write, nothing of the text goes at them but where they are one byte, and the letters become what they write.
+/// The first byte, and of a sequence its first ones, say which question is worth to be asked: of most bytes none is.
 #[inline(always)]
 pub(crate) fn foretold(
     terminal: &Terminal,
@@ -182,9 +218,7 @@ pub(crate) fn foretold(
         [ESC, b'[', b'0' | b'K', ..] => {
             Some(Foretold::Writes(erased(terminal, text, still, bytes, letters)?))
         }
-        _ if may_be_letter(bytes) => {
-            Some(Foretold::Writes(written(terminal, text, still, bytes, letters)?))
-        }
+        _ if may_be_letter(bytes) => lettered(terminal, text, still, bytes, letters),
         _ => None,
     }
 }
@@ -204,29 +238,19 @@ fn moved(terminal: &Terminal, bytes: &[u8]) -> Option<Foretold>
     Some(Foretold::MovesWithin(moved_within(terminal, bytes)?))
 }
 
-/// The set in use, where the first of the bytes are a character that may be put, and nothing of the text goes at it.
-fn set_quiet(
-    terminal: &Terminal,
-    text: &[char],
-    still: &Standing,
-    bytes: &[u8],
-) -> Option<CharacterSet>
-    ensures written { IfSome result (λ set. (x : Term) → Shows terminal.now x → WritesStyled set x) }
-    ensures some { IfSome result (λ _. 0 < length text.now) }
-    ensures ends { (x : Term) → Shows terminal.now x
+/// Whether nothing of the text goes where letters are put from the cursor on, so long as none of its neighbours come to stand
+/// at a border of theirs.
+fn is_quiet(terminal: &Terminal, text: &[char], still: &Standing) -> bool
+    ensures some { result ≡ true → 0 < length text.now }
+    ensures ends { result ≡ true → (x : Term) → Shows terminal.now x
         → still.now.rows.items ≡ rows_behind x [] 0
         → still.now.places.items ≡ standing text.now (rows_behind x [] 0)
-        → IfSome result (λ _. EndsLeft text.now x) }
+        → EndsLeft text.now x }
 {
     if text.is_empty() {
-        return None;
+        return false;
     }
-    // Where none is put it isn't worth to look at all places.
-    let set = set_written(terminal, bytes)?;
-    if !ends_left(terminal, text.len(), still) {
-        return None;
-    }
-    Some(set)
+    ends_left(terminal, text.len(), still)
 }
 
 /// The set in use, where the first of the bytes are a character that may be put.

@@ -3,5 +3,5 @@ use Rattle.xterm_print.proofs.PieceLemmas.{one_quiet, unshown_quiet}
 use Rattle.xterm_print.proofs.pieces.quiet_piece.Goals as goal
 
 pub returns-then-unshown-gt0-clause-quiet : goal.returns-then-unshown-gt0-clause-quiet
-returns-then-unshown-gt0-clause-quiet c = λ x shows _ _.
-    unshown_quiet x c.args.text.now c.args.bytes.now c.unshown-unshown.result _ (omega (arith, c.min.ensures)) (c.unshown-unshown.ensures.shows x shows)
+returns-then-unshown-gt0-clause-quiet c = λ text x shows.
+    unshown_quiet x text c.args.bytes.now c.unshown-unshown.result _ (omega (arith, c.min.ensures)) (c.unshown-unshown.ensures.shows x shows)
