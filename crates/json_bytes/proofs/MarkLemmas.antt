@@ -1,6 +1,7 @@
 -- Space at the front of a text: none, or one byte.
 use Rattle.std.proofs.Common.{◌≡◌, ℕ, ◌-◌, ◌<◌, List, [], ◌∷◌, length, take, drop, get_or, false, refl, sym, arith}
 use Rattle.std.specs.List.{prefix_len}
+use Rattle.std.proofs.lemmas.Bool.Decides.{nat_tests}
 use Rattle.std.proofs.lemmas.List.{take_all}
 use Rattle.json_bytes.specs.Marks.{is_space, past_space}
 
@@ -8,9 +9,12 @@ pub none_first : (text : List ℕ) → length text ≡ 0 → prefix_len is_space
 none_first [] none = refl
 none_first (b ∷ bs) none = absurd (omega arith)
 
-pub first_other : (text : List ℕ) → 0 < length text → is_space (get_or text 0 0) ≡ false → prefix_len is_space text ≡ 0
-first_other [] some other = absurd (omega arith)
-first_other (b ∷ bs) some other = rw (prefix_len, other) refl
+above : (b : ℕ) → 32 < b → is_space b ≡ false
+above b more = grind (arith, nat_tests)
+
+pub first_above : (text : List ℕ) → 32 < get_or text 0 0 → prefix_len is_space text ≡ 0
+first_above [] more = absurd (omega arith)
+first_above (b ∷ bs) more = rw (prefix_len, above b more) refl
 
 pub no_space : (text : List ℕ) → prefix_len is_space text ≡ 0 → past_space text ≡ text
 no_space text none = rw none refl

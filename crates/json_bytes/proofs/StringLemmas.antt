@@ -196,3 +196,7 @@ lanes_read before text run is few =
     ap (with_front before) (some_plain run text (omega (arith, fewer 16 text)))
     ∙ fronts before (take run text) (items 0 (drop run text))
     ∙ ap (λ bytes. with_front (before ++ bytes) (items 0 (drop run text))) (sym (take_few run 16 text few))
+
+-- a digit from 0 to 7
+pub low_digit : (b : ℕ) → 48 ≤ b → b ≤ 55 → hex_digit b ≡ Some (b - 48)
+low_digit b from to = grind (arith, nat_tests)

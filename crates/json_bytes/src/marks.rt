@@ -19,14 +19,14 @@ fn space_len(text: &[u8]) -> usize
     text.iter().take_while(|b| is_space(**b)).count()
 }
 
-/// Whether no space stands at the front.
+/// Whether a byte above all space stands at the front, or none.
 #[inline]
-#[tactic(auto, using(crate::proofs::MarkLemmas::first_other, crate::proofs::MarkLemmas::none_first))]
+#[tactic(auto, using(crate::proofs::MarkLemmas::first_above, crate::proofs::MarkLemmas::none_first))]
 fn is_trimmed(text: &[u8]) -> bool
     ensures { result ≡ true → prefix_len is_space text.now ≡ 0 }
 {
     match text {
-        [first, ..] => !is_space(*first),
+        [first, ..] => *first > b' ',
         [] => true,
     }
 }

@@ -220,13 +220,12 @@ fn ascii_at(text: &[u8]) -> Option<u8>
     if text.len() < 6 || !text.starts_with(b"\\u00") {
         return None;
     }
-    let high = hex_digit(text[4])?;
-    let low = hex_digit(text[5])?;
-    if high < 8 {
-        Some((16 * high + low) as u8)
-    } else {
-        None
+    let high = text[4];
+    if high < b'0' || high > b'7' {
+        return None;
     }
+    let low = hex_digit(text[5])?;
+    Some((16 * u32::from(high - b'0') + low) as u8)
 }
 
 /// How many bytes the item at the front has.

@@ -1,8 +1,12 @@
-use Rattle.std.proofs.Common.{◌∙◌, arith, sym}
-use Rattle.json_bytes.proofs.StringLemmas.{ascii_item}
+use Rattle.std.proofs.Common.{◌≡◌, ◌∙◌, Some, ap, arith, get_or, sym}
+use Rattle.json_bytes.specs.Strings.{hex_digit}
+use Rattle.json_bytes.proofs.StringLemmas.{ascii_item, low_digit}
 use Rattle.json_bytes.proofs.strings.ascii_at.Goals as goal
 
-pub returns-then-high-lt8-clause-value : goal.returns-then-high-lt8-clause-value
-returns-then-high-lt8-clause-value c =
-    ascii_item c.args.text.now c.in_ok-high.high c.in_ok-low.low (omega arith) (sym c.starts_with.ensures.value ∙ c.if-not-starts_with.false)
-    (sym c.in_ok-high.ensures.value) (sym c.in_ok-low.ensures.value) (omega arith) (omega (arith, c.in_ok-low.ensures.small))
+pub returns-clause-value : goal.returns-clause-value
+returns-clause-value c =
+    let text = c.args.text.now in
+    let high = get_or text 4 0 in
+    let digit : hex_digit high ≡ Some c.from.result = low_digit high (omega arith) (omega arith) ∙ ap Some (sym c.from.ensures) in
+    ascii_item text c.from.result c.in_ok-low.low (omega arith) (sym c.starts_with.ensures.value ∙ c.if-not-starts_with.false) digit
+    (sym c.in_ok-low.ensures.value) (omega arith) (omega (arith, c.in_ok-low.ensures.small))
