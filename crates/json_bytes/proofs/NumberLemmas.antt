@@ -40,13 +40,18 @@ after_more n (d ∷ ds) (suc i) lt =
     let next : suc i + 1 ≡ suc (i + 1) = omega arith in
     rw next (after_more (n * 10 + digit_value d) ds i (omega arith))
 
+pub capped_next : (before : ℕ) (ds : List ℕ) (i most n d : ℕ) → is_ascii_digit (get_or ds i 0) ≡ true → i < length ds
+    → n ≡ min most (digits_value_after 10 before (take i ds)) → d ≡ get_or ds i 0 - 48
+    → min (n * 10 + d) most ≡ min most (digits_value_after 10 before (take (i + 1) ds))
+capped_next before ds i most n d next lt here is =
+    let value : digit_value (get_or ds i 0) ≡ get_or ds i 0 - 48 = digit_of _ next in
+    let more = after_more before ds i lt in
+    omega (arith, more, value)
+
 pub capped_more : (before : ℕ) (ds : List ℕ) (i most n d : ℕ) → AllPass is_ascii_digit ds → i < length ds
     → n ≡ min most (digits_value_after 10 before (take i ds)) → d ≡ get_or ds i 0 - 48
     → min (n * 10 + d) most ≡ min most (digits_value_after 10 before (take (i + 1) ds))
-capped_more before ds i most n d all lt here is =
-    let value : digit_value (get_or ds i 0) ≡ get_or ds i 0 - 48 = digit_of _ (all i 0 lt) in
-    let more = after_more before ds i lt in
-    omega (arith, more, value)
+capped_more before ds i most n d all lt here is = capped_next before ds i most n d (all i 0 lt) lt here is
 
 first_or_rest : (x : ℕ) (xs : List ℕ) → is_ascii_digit x ≡ true → AllPass is_ascii_digit xs → AllPass is_ascii_digit (x ∷ xs)
 first_or_rest x xs is all zero e lt = is
@@ -240,7 +245,7 @@ some_whole : (n : ℕ) (text : List ℕ) → nat_eq (length (take n text)) 0 ≡
 some_whole zero text some = cc
 some_whole (suc n) text some = omega arith
 
-not_zero : (n : ℕ) → 0 < n → nat_eq n 0 ≡ false
+pub not_zero : (n : ℕ) → 0 < n → nat_eq n 0 ≡ false
 not_zero zero some = absurd (omega arith)
 not_zero (suc n) some = grind (arith, nat_tests)
 

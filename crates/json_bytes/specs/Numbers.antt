@@ -1,7 +1,7 @@
 -- The numbers of JSON, and what they are worth. RFC 8259, section 6.
-use Rattle.std.specs.Prelude.{ℕ, ◌+◌, ◌*◌, ◌/◌, ◌^◌, Bool, ◌&&◌, ◌||◌, not, List, [], ◌++◌, length, take, drop, min, ◌==◌, Option, Some, None, if◌then◌else◌}
+use Rattle.std.specs.Prelude.{ℕ, ◌+◌, ◌*◌, ◌/◌, ◌^◌, ◌≡◌, ◌<◌, Bool, ◌&&◌, ◌||◌, not, List, [], ◌++◌, length, take, drop, min, ◌==◌, Option, Some, None, if◌then◌else◌}
 use Rattle.std.specs.Char.{is_ascii_digit}
-use Rattle.std.specs.List.{prefix_len}
+use Rattle.std.specs.List.{AllPass, prefix_len}
 use Rattle.std.specs.Str.Parse.{digits_value}
 use Rattle.json_bytes.specs.Marks.{begins}
 
@@ -77,6 +77,13 @@ plain_digits number =
 -- The greatest value that is told; one above it counts as it (ours).
 abbrev pub greatest : ℕ
 greatest = 1000000000000000000
+
+-- What digits write, of which there are so many.
+pub record IsCounted (digits : List ℕ) (count len : ℕ) : Type 0 where
+  pub all : AllPass is_ascii_digit digits
+  pub some : 0 < length digits
+  pub number : count ≡ min greatest (digits_value 10 digits)
+  pub whole : len ≡ length digits
 
 -- The exponent where it raises, and where it lowers.
 abbrev pub raises : Decimal → ℕ

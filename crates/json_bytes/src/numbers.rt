@@ -1,11 +1,12 @@
 //! Numbers: their text, and what they are worth.
-ghost use Rattle.std.specs.Prelude.{◌≡◌, ℕ, ◌+◌, ◌*◌, ◌^◌, ◌≤◌, ◌++◌, IfSome, Some, drop, length, min, take};
+ghost use Rattle.std.specs.Prelude.{◌≡◌, ℕ, ◌+◌, ◌*◌, ◌^◌, ◌<◌, ◌≤◌, ◌++◌, IfSome, List, MatchOption, None, Some, drop, false, length, min, take, true};
 ghost use Rattle.std.specs.Char.{is_ascii_digit};
 ghost use Rattle.std.specs.List.{AllPass, prefix_len};
 ghost use Rattle.std.specs.Option.{option_and_then, option_map};
 ghost use Rattle.std.specs.Str.Parse.{digits_value, digits_value_after};
 ghost use Rattle.json_bytes.specs.Arrays.{byte_at, byte_of};
-ghost use Rattle.json_bytes.specs.Numbers.{decimal_at, digits_len, digits_of, exponent_of, fraction_of, greatest, lowers, number_at, past_digits, past_exponent, past_fraction, past_minus, past_sign, plain_digits, raises, scaled, whole_len};
+ghost use Rattle.json_bytes.specs.Marks.{begins};
+ghost use Rattle.json_bytes.specs.Numbers.{IsCounted, decimal_at, digits_len, digits_of, exponent_of, fraction_of, greatest, lowers, number_at, past_digits, past_exponent, past_fraction, past_minus, past_sign, plain_digits, raises, scaled, whole_len};
 ghost use Rattle.json_bytes.specs.Shown.{IsOfDigits, alone, kept_digits, kept_zeros, shown};
 ghost use Rattle.json_bytes.specs.Values.{as_part, behind, found, number_of, value};
 
@@ -110,6 +111,7 @@ fn split_exponent(text: &[u8]) -> (&[u8], &[u8])
 fn number_at(text: &[u8]) -> Option<(Parts<'_>, &[u8])>
     ensures parts { option_map (λ r. (shown r.0, r.1.now)) result ≡ number_at text.now }
     ensures digits { IfSome result (λ r. IsOfDigits r.0) }
+    ensures some { IfSome result (λ r. 0 < length r.0.whole.now) }
 {
     let (whole, rest) = split_whole(past_minus(text));
     if whole.is_empty() {
@@ -230,6 +232,7 @@ fn whole_digits<'a>(number: &Parts<'a>) -> Option<&'a [u8]>
     requires { IsOfDigits number.now }
     ensures digits { option_map (λ r. r.now) result ≡ plain_digits (shown number.now) }
     ensures all { IfSome result (λ digits. AllPass is_ascii_digit digits.now) }
+    ensures whole { IfSome result (λ digits. digits.now ≡ number.now.whole.now) }
 {
     if !number.negative && number.fraction.is_empty() && number.exponent.is_empty() {
         Some(number.whole)
@@ -257,6 +260,7 @@ fn byte_of(number: &Parts) -> Option<u8>
 fn split_plain(text: &[u8]) -> Option<(&[u8], &[u8])>
     ensures number { IfSome result (λ r. number_at text.now ≡ Some (alone r.0.now r.1.now, r.1.now)) }
     ensures digits { IfSome result (λ r. AllPass is_ascii_digit r.0.now) }
+    ensures some { IfSome result (λ r. 0 < length r.0.now) }
 {
     let (digits, rest) = split_whole(text);
     if digits.is_empty() || begins(b'.', rest) || begins(b'e', rest) || begins(b'E', rest) {
@@ -282,12 +286,57 @@ pub fn plain_digits(text: &[u8]) -> Option<&[u8]>
     ensures digits { (depth : ℕ) → option_map (λ r. r.now) result
         ≡ option_and_then plain_digits (number_of (found (value depth text.now))) }
     ensures all { IfSome result (λ digits. AllPass is_ascii_digit digits.now) }
+    ensures some { IfSome result (λ digits. 0 < length digits.now) }
 {
     if let Some((digits, _rest)) = split_plain(text) {
         return Some(digits);
     }
     let (number, _rest) = number_at(text)?;
     whole_digits(&number)
+}
+
+/// The number that the digits at the front write, and how many they are; one above 10^18 counts as 10^18.
+#[inline]
+fn count_digits(text: &[u8]) -> (u64, usize)
+    ensures count { result.0 ≡ min greatest (digits_value 10 (digits_of text.now)) }
+    ensures len { result.1 ≡ digits_len text.now }
+    ensures within { result.1 ≤ length text.now }
+{
+    let mut count: u64 = 0;
+    let mut len = 0;
+    for b in text {
+        if !b.is_ascii_digit() {
+            return (count, len);
+        }
+        count = (count * 10 + u64::from(*b - b'0')).min(GREATEST);
+        len += 1;
+    }
+    (count, len)
+}
+
+/// Whether a number has digits alone that doesn't begin with a zero and that this stands behind.
+#[inline]
+fn is_alone(text: &[u8], rest: &[u8]) -> bool
+    ensures { result ≡ true → (begins 48 text.now ≡ false) × (begins 46 rest.now ≡ false)
+        × (begins 101 rest.now ≡ false) × (begins 69 rest.now ≡ false) }
+{
+    !(begins(b'0', text) || begins(b'.', rest) || begins(b'e', rest) || begins(b'E', rest))
+}
+
+/// What the digits write of the number that stands at the front as a value, where its text is digits alone, and how many
+/// they are; a number above 10^18 counts as 10^18.
+pub fn plain_count(text: &[u8]) -> Option<(u64, usize)>
+    ensures { MatchOption result
+        ((depth : ℕ) → option_and_then plain_digits (number_of (found (value depth text.now))) ≡ None)
+        (λ r. (digits : List ℕ) × IsCounted digits r.0 r.1 × ((depth : ℕ)
+        → option_and_then plain_digits (number_of (found (value depth text.now))) ≡ Some digits)) }
+{
+    let (count, len) = count_digits(text);
+    if len > 0 && is_alone(text, text.split_at(len).1) {
+        return Some((count, len));
+    }
+    let digits = plain_digits(text)?;
+    Some((capped(0, digits), digits.len()))
 }
 
 /// The byte at the front, as a number of digits alone, and what stands behind it.

@@ -252,14 +252,14 @@ fn past_plain(text: &[u8]) -> &[u8]
 
 /// Adds the bytes at the front of a string's text that stand by themselves, at least up to the first other one, and
 /// gives what stands behind them.
-#[inline]
+#[inline(always)]
 fn push_plain<'a>(pieces: &mut Pieces, text: &'a [u8]) -> Result<&'a [u8], AllocError>
     ensures pushed { IfOk result (λ rest. with_front (added pieces.old) (items 0 text.now)
         ≡ with_front (added pieces.new) (items 0 rest.now)) }
     ensures shorter { IfOk result (λ rest. length rest.now ≤ length text.now) }
 {
     let mut rest = text;
-    while let [first, behind @ ..] = rest {
+    loop {
         if rest.len() >= LANES && pieces.has_room() {
             let lanes = u8x16::from_slice(rest);
             let run = plain_lanes(lanes);
@@ -268,14 +268,16 @@ fn push_plain<'a>(pieces: &mut Pieces, text: &'a [u8]) -> Result<&'a [u8], Alloc
             if run < LANES {
                 return Ok(rest);
             }
-        } else if is_plain(*first) {
-            pieces.push(*first)?;
-            rest = behind;
         } else {
-            return Ok(rest);
+            match rest {
+                [first, behind @ ..] if is_plain(*first) => {
+                    pieces.push(*first)?;
+                    rest = behind;
+                }
+                _ => return Ok(rest),
+            }
         }
     }
-    Ok(rest)
 }
 
 /// Adds the bytes that a string's text means up to its quote, and gives what stands behind that.
@@ -284,23 +286,26 @@ fn push_items<'a>(pieces: &mut Pieces, text: &'a [u8]) -> Result<Option<&'a [u8]
     ensures { IfOk result (λ rest. option_map (λ r. (added pieces.new, r.now)) rest
         ≡ with_front (added pieces.old) (items 0 text.now)) }
 {
-    let mut rest = push_plain(pieces, text)?;
-    while let [first, behind @ ..] = rest {
+    let mut at = text;
+    loop {
+        let rest = push_plain(pieces, at)?;
+        let [first, behind @ ..] = rest else {
+            return Ok(None);
+        };
         if *first == b'"' {
             return Ok(Some(behind));
         }
         if let Some(byte) = ascii_at(rest) {
             pieces.push(byte)?;
-            rest = push_plain(pieces, &rest[6..])?;
+            at = &rest[6..];
         } else {
             let Some((meaning, len)) = item_at(rest) else {
                 return Ok(None);
             };
             push_meaning(pieces, meaning)?;
-            rest = push_plain(pieces, rest.split_at(len).1)?;
+            at = rest.split_at(len).1;
         }
     }
-    Ok(None)
 }
 
 /// The bytes that a string's text means up to its quote, and what stands behind that.

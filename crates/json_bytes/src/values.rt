@@ -1,15 +1,15 @@
 //! Values: where they end, and what stands in them.
-ghost use Rattle.std.specs.Prelude.{◌≡◌, ◌+◌, ℕ, None, Some, IfOk, IfSome, MatchOption, is_some, true};
+ghost use Rattle.std.specs.Prelude.{◌≡◌, ◌+◌, ℕ, List, None, Some, IfOk, IfSome, MatchOption, is_some, true};
 ghost use Rattle.std.specs.Char.{is_ascii_digit};
 ghost use Rattle.std.specs.List.{AllPass};
 ghost use Rattle.std.specs.Option.{option_and_then, option_map};
 ghost use Rattle.json_bytes.specs.Listed.{valued};
-ghost use Rattle.json_bytes.specs.Numbers.{plain_digits};
+ghost use Rattle.json_bytes.specs.Numbers.{IsCounted, plain_digits};
 ghost use Rattle.json_bytes.specs.Strings.{meant};
 ghost use Rattle.json_bytes.specs.Values.{array_at, behind, found, json_of, member_of, nested_at, number_of, object_at, string_of, triple_of, tripled, value, word_at};
 
 use crate::marks::{begins, past_mark, past_space};
-use crate::numbers::{number_end, plain_digits};
+use crate::numbers::{number_end, plain_count, plain_digits};
 use crate::strings::{StringBytes, read_string, string_end, string_in};
 use std::alloc::{AllocError, Global};
 
@@ -157,6 +157,20 @@ impl ReadValue<'_> {
         match self {
             ReadValue::Text(_) => None,
             ReadValue::Other(place) => plain_digits(place),
+        }
+    }
+
+    /// What these digits write, and how many they are; a number above 10^18 counts as 10^18.
+    #[inline]
+    pub fn plain_count(&self) -> Option<(u64, usize)>
+        ensures { MatchOption result
+            ((depth : ℕ) → option_and_then plain_digits (number_of (Some (valued depth self.now))) ≡ None)
+            (λ r. (digits : List ℕ) × IsCounted digits r.0 r.1 × ((depth : ℕ)
+            → option_and_then plain_digits (number_of (Some (valued depth self.now))) ≡ Some digits)) }
+    {
+        match self {
+            ReadValue::Text(_) => None,
+            ReadValue::Other(place) => plain_count(place),
         }
     }
 }

@@ -34,6 +34,6 @@ loop-rest-preserved c =
     let behind = ap length (take_rest rest 1) in (
       c.loop-rest.invariant.0
           ∙ plain_first (added c.loop-rest.pieces) rest (omega arith) (sym c.is_plain.ensures ∙ c.if-is_plain.true)
-          ∙ ap (λ front. with_front front (items 0 (take (length rest - 1) (drop 1 rest)))) (sym c.in_ok-push.ensures),
+          ∙ ap (λ front. with_front front (items 0 (take (length rest - 1) (drop 1 rest)))) (sym c.in_ok-push-in-len1-up.ensures),
       omega (arith, c.loop-rest.invariant.1),
     )
