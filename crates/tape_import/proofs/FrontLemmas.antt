@@ -18,12 +18,10 @@ use Rattle.tape_import.specs.declared.event.What.TheVariants as what
 use Rattle.tape_import.specs.declared.fault.EventFault.{EventFault}
 use Rattle.tape_import.specs.Tlog as tlog
 use Rattle.tape_import.specs.Tlog.{LineRead, at_start, messages, order_fault, read_on, take_on, with_events}
-use Rattle.tape_import.specs.TlogMessage.{message_of}
-use Rattle.tape_import.specs.TlogTiming.{story_of}
+use Rattle.tape_import.specs.TlogMessage.{Message, message_of, story_of}
 use Rattle.tape_import.specs.declared.losses.Left.{Left}
 use Rattle.tape_import.specs.declared.tlog.Log.{Log}
 use Rattle.tape_import.specs.declared.tlog.LogFront.{LogFront}
-use Rattle.tape_import.specs.declared.tlog_message.Message.{Message}
 use Rattle.tape_import.specs.declared.version.Version.{Version}
 use Rattle.tape_import.specs.declared.version.Version.TheVariants as version
 use Rattle.tape_import.proofs.CastLemmas.{line_ends, line_taken}

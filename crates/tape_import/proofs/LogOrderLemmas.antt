@@ -10,8 +10,7 @@ use Rattle.tape_import.specs.Refusal.{late_fault}
 use Rattle.tape_import.specs.Tlog as tlog
 use Rattle.tape_import.specs.Tlog.{LineRead, Taken, at_start, first_by, is_same_name, messages, on_line, order_fault, read_on, take_on, with_events, with_found, with_ordered}
 use Rattle.tape_import.specs.TlogImported.{late}
-use Rattle.tape_import.specs.TlogMessage.{message_of}
-use Rattle.tape_import.specs.TlogTiming.{story_of}
+use Rattle.tape_import.specs.TlogMessage.{Message, message_of, story_of}
 use Rattle.tape_import.specs.declared.asciicast.Cast.{Cast}
 use Rattle.tape_import.specs.declared.event.Event.{Event}
 use Rattle.tape_import.specs.declared.event.What.{What}
@@ -25,7 +24,6 @@ use Rattle.tape_import.specs.declared.refusal.Refusal.{Refusal}
 use Rattle.tape_import.specs.declared.tlog.Log.{Log}
 use Rattle.tape_import.specs.declared.tlog.LogFront.{LogFront}
 use Rattle.tape_import.specs.declared.tlog_message.Head.{Head}
-use Rattle.tape_import.specs.declared.tlog_message.Message.{Message}
 use Rattle.tape_import.specs.declared.version.Version.TheVariants as version
 use Rattle.tape_import.proofs.FrontLemmas.{AllBlank, Headed, Split, lined, same_number, split}
 use Rattle.tape_import.proofs.OrderLemmas.{Slower, fault_by, found_slower, is_among, line_alone, slow_alone, still_slow, wider}

@@ -10,8 +10,7 @@ use Rattle.tape_import.specs.Law.{EndAtFault, EndInLine, HasItsMessages, bytes_o
 use Rattle.tape_import.specs.Outputs.{Outputs}
 use Rattle.tape_import.specs.Tlog as tlog
 use Rattle.tape_import.specs.Tlog.{LineRead, Taken, at_start, is_same_name, log_of, messages, on_line, read_on, take_on, with_events, with_found, with_taken}
-use Rattle.tape_import.specs.TlogMessage.{message_of}
-use Rattle.tape_import.specs.TlogTiming.{story_of}
+use Rattle.tape_import.specs.TlogMessage.{Message, message_of, story_of}
 use Rattle.tape_import.specs.declared.asciicast.Cast.{Cast}
 use Rattle.tape_import.specs.declared.event.Event.{Event}
 use Rattle.tape_import.specs.declared.event.What.{What}
@@ -22,7 +21,6 @@ use Rattle.tape_import.specs.declared.losses.Left.{Left}
 use Rattle.tape_import.specs.declared.tlog.Log.{Log}
 use Rattle.tape_import.specs.declared.tlog.LogFront.{LogFront}
 use Rattle.tape_import.specs.declared.tlog_message.Head.{Head}
-use Rattle.tape_import.specs.declared.tlog_message.Message.{Message}
 use Rattle.tape_import.specs.declared.version.Version.TheVariants as version
 use Rattle.tape_import.proofs.AddedLemmas.{Added, all_taken, fault_first, none_added, one_added}
 use Rattle.tape_import.proofs.OutputLemmas.{found_added}

@@ -2,8 +2,7 @@
 use Rattle.std.proofs.Common.{◌≡◌, ℕ, zero, ◌+◌, Bool, true, false, List, [], length, take, drop, nat_le, Option, Some, None, refl, ap, sym, subst, ◌∙◌, arith, drop-drop}
 use Rattle.std.proofs.lemmas.List.{drop_all, take_all}
 use Rattle.std.specs.Option.{option_map}
-use Rattle.tape_import.specs.TlogTiming.{bytes_taken, characters_len, text_taken}
-use Rattle.tape_import.specs.declared.tlog_message.Stream.{Stream}
+use Rattle.tape_import.specs.TlogTiming.{Stream, bytes_taken, characters_len, text_taken}
 
 pub text_passed : (count len at next : ℕ) (text bytes : List ℕ) → characters_len count (drop at text) ≡ Some len → at + len ≡ next
     → text_taken count (record { text = drop at text; bytes = bytes }) ≡ Some (take len (drop at text), record { text = drop next text; bytes = bytes })

@@ -1,14 +1,15 @@
 -- The items of a timing and the messages of a recording, one after another.
-use Rattle.std.proofs.Common.{All, IfSome, append-nil, nat_eq, subst, ◌≡◌, ℕ, zero, suc, ◌+◌, ◌-◌, ◌<◌, ◌≤◌, ◌&&◌, Bool, fold, max, min, nat_le, nat_lt, if◌then◌else◌, true, false, List, [], ◌∷◌, ◌++◌, length, take, drop, get_or, Option, Some, None, refl, ap, sym, ◌∙◌, arith, unwrap_or}
+use Rattle.std.proofs.Common.{All, IfSome, append-nil, false, nat_eq, subst, ◌≡◌, ℕ, zero, suc, ◌+◌, ◌-◌, ◌<◌, ◌≤◌, ◌&&◌, Bool, fold, max, min, nat_le, nat_lt, if◌then◌else◌, true, false, List, [], ◌∷◌, ◌++◌, length, take, drop, get_or, Option, Some, None, refl, ap, sym, ◌∙◌, arith, unwrap_or}
 use Rattle.std.specs.List.{prefix_len}
 use Rattle.std.specs.Option.{option_map}
 use Rattle.std.specs.Char.{is_ascii_digit}
 use Rattle.std.specs.List.{list_all}
 use Rattle.std.specs.Str.Parse.{AllDigits, digits_value}
 use Rattle.std.proofs.Math.Seq.{drop-cons}
-use Rattle.std.proofs.lemmas.Bool.{le-leb}
+use Rattle.std.proofs.lemmas.Bool.{le-leb, lt-leb, lt-ltb}
 use Rattle.std.proofs.lemmas.Bool.Decides.{nat_tests}
 use Rattle.std.proofs.lemmas.List.{take_all}
+use Rattle.std.proofs.lemmas.List.Sums.{list_all-from_AllPass}
 use Rattle.std.proofs.lemmas.List.Elements.{All-append, All-cons, All-nil}
 use Rattle.std.proofs.lemmas.Str.{digit_value_digit}
 use Rattle.std.proofs.lemmas.Str.Parse.{IsNumeralModel, digits_value_short}
@@ -18,6 +19,7 @@ use Rattle.tape_core.specs.Text as digits
 use Rattle.tape_import.specs.TlogMessage.{short_number}
 use Rattle.json_bytes.specs.Arrays.{bytes_of}
 use Rattle.json_bytes.specs.Listed.{standing}
+use Rattle.json_bytes.specs.Numbers.{IsCounted}
 use Rattle.json_bytes.specs.Values.{Json, found, null, number_of, string_of, value}
 use Rattle.tape_import.specs.Asciicast.{left_from, what_fault}
 use Rattle.tape_import.specs.KeptCast.{IsSized}
@@ -252,7 +254,21 @@ short_by text true is few =
     let same : min (digits_value 10 text) last_moment ≡ digits_value 10 text = omega arith in
     ap Some same
 
-pub short_is : (text : List ℕ) → length text ≤ 18 → option_map (λ n. min n last_moment) (digits.number_of text) ≡ short_number text
+short_is : (text : List ℕ) → length text ≤ 18 → option_map (λ n. min n last_moment) (digits.number_of text) ≡ short_number text
 short_is text few =
     let le : nat_le (length text) 18 ≡ true = le-leb (length text) 18 few in
     rw le (short_by text (nat_lt 0 (length text) && list_all is_ascii_digit text) refl few)
+
+-- digits that were counted
+pub counted_short : (text : List ℕ) (count len : ℕ) → IsCounted text count len → len ≤ 18 → Some count ≡ short_number text
+counted_short text count len counted few =
+    let some : nat_lt 0 (length text) ≡ true = lt-ltb 0 (length text) counted.some in
+    let all : list_all is_ascii_digit text ≡ true = list_all-from_AllPass is_ascii_digit text counted.all in
+    let value : count ≡ min (digits_value 10 text) last_moment = omega (arith, counted.number) in
+    let number : digits.number_of text ≡ Some (digits_value 10 text) = rw (some, all) refl in
+    ap Some value ∙ ap (option_map (λ n. min n last_moment)) (sym number) ∙ short_is text (omega (arith, counted.whole))
+
+pub counted_long : (text : List ℕ) (count len : ℕ) → IsCounted text count len → 18 < len → None ≡ short_number text
+counted_long text count len counted many =
+    let more : nat_le (length text) 18 ≡ false = lt-leb (length text) 18 (omega (arith, counted.whole)) in
+    rw more refl

@@ -13,8 +13,8 @@ use Rattle.tape_import.specs.Facts.{is_term_byte}
 use Rattle.tape_import.specs.Kept.{IsSize}
 use Rattle.tape_import.specs.KeptCast.{HasSizes}
 use Rattle.tape_import.specs.Tlog.{Taken, take_on}
-use Rattle.tape_import.specs.TlogMessage.{count_of, given_bytes, given_text, is_versioned}
-use Rattle.tape_import.specs.TlogTiming.{Progress, Step, at_front, characters_len, goes_on}
+use Rattle.tape_import.specs.TlogMessage.{Message, at_front, count_of, given_bytes, given_text, is_versioned}
+use Rattle.tape_import.specs.TlogTiming.{Progress, Step, Stream, characters_len, goes_on}
 use Rattle.tape_import.specs.declared.asciicast.Cast.{Cast}
 use Rattle.tape_import.specs.declared.event.Event.{Event}
 use Rattle.tape_import.specs.declared.event.What.{What}
@@ -24,9 +24,7 @@ use Rattle.tape_import.specs.declared.tlog_fields.Field.TheVariants as field
 use Rattle.tape_import.specs.declared.tlog_fields.Fields.{Fields}
 use Rattle.tape_import.specs.declared.tlog_message.Head.{Head}
 use Rattle.tape_import.specs.declared.tlog_message.HeadRead.{HeadRead}
-use Rattle.tape_import.specs.declared.tlog_message.Message.{Message}
 use Rattle.tape_import.specs.declared.tlog_message.MessageRead.{MessageRead}
-use Rattle.tape_import.specs.declared.tlog_message.Stream.{Stream}
 use Rattle.tape_import.specs.declared.tlog_stream.Rest.{Rest}
 use Rattle.tape_import.specs.declared.tlog_timing.Progress.{Progress as ProgressKept}
 use Rattle.tape_import.specs.declared.tlog_timing.Word.{Word}

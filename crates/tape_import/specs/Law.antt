@@ -11,8 +11,7 @@ use Rattle.tape_import.specs.AsciicastOne.{asciicast_one_of}
 use Rattle.tape_import.specs.EntriesOne.{outputs_of}
 use Rattle.tape_import.specs.Outputs.{Outputs, output_fault}
 use Rattle.tape_import.specs.Tlog.{log_of}
-use Rattle.tape_import.specs.TlogMessage.{message_of}
-use Rattle.tape_import.specs.TlogTiming.{story_of}
+use Rattle.tape_import.specs.TlogMessage.{Message, message_of, story_of}
 use Rattle.tape_import.specs.Ttyrec.{data_of, head_len, told_of, ttyrec_of}
 use Rattle.tape_import.specs.declared.event.Event.{Event}
 use Rattle.tape_import.specs.declared.event.What.{What}
@@ -20,7 +19,6 @@ use Rattle.tape_import.specs.declared.event.What.TheVariants as what
 use Rattle.tape_import.specs.declared.fault.EventFault.{EventFault}
 use Rattle.tape_import.specs.declared.fault.EventFault.TheVariants as fault
 use Rattle.tape_import.specs.declared.losses.Left.{Left}
-use Rattle.tape_import.specs.declared.tlog_message.Message.{Message}
 use Rattle.tape_import.specs.declared.version.Version.{Version}
 
 -- What is imported fits the limits, and the pair that is written of it is read again without a fault as that recording.

@@ -3,8 +3,7 @@ use Rattle.std.specs.Prelude.{ℕ, ◌+◌, Bool, true, false, ◌&&◌, List, [
 use Rattle.tape_core.specs.Text.{lines_of}
 use Rattle.tape_import.specs.Asciicast as cast
 use Rattle.tape_import.specs.Asciicast.{at_header, is_blank_line, is_word, left_from, what_fault}
-use Rattle.tape_import.specs.TlogMessage.{message_of}
-use Rattle.tape_import.specs.TlogTiming.{story_of}
+use Rattle.tape_import.specs.TlogMessage.{Message, message_of, story_of}
 use Rattle.tape_import.specs.declared.asciicast.Cast.{Cast}
 use Rattle.tape_import.specs.declared.event.Event.{Event}
 use Rattle.tape_import.specs.declared.fault.EventFault.{EventFault}
@@ -13,7 +12,6 @@ use Rattle.tape_import.specs.declared.losses.Left.{Left}
 use Rattle.tape_import.specs.declared.tlog.Log.{Log}
 use Rattle.tape_import.specs.declared.tlog.LogFront.{LogFront}
 use Rattle.tape_import.specs.declared.tlog_message.Head.{Head}
-use Rattle.tape_import.specs.declared.tlog_message.Message.{Message}
 use Rattle.tape_import.specs.declared.version.Version.TheVariants as version
 
 -- What a message tells is taken as the events of an asciicast 2 are, up to the first output that has a fault.

@@ -6,10 +6,25 @@ use Rattle.json_bytes.specs.Numbers.{plain_digits}
 use Rattle.json_bytes.specs.Values.{Json, json_of, member_of, number_of, string_of}
 use Rattle.tape_core.specs.Text as digits
 use Rattle.tape_import.specs.Asciicast.{date_of, term_of}
-use Rattle.tape_import.specs.TlogTiming.{story_of}
+use Rattle.tape_import.specs.TlogTiming.{Progress, Story, Stream, items, later}
 use Rattle.tape_import.specs.declared.tlog_message.Head.{Head}
-use Rattle.tape_import.specs.declared.tlog_message.Message.{Message}
-use Rattle.tape_import.specs.declared.tlog_message.Stream.{Stream}
+
+-- A message: what it tells of its recording; its moment, in milliseconds; and what was typed and shown from then on, by
+-- its timing.
+pub record Message : Type 0 where
+  pub head : Head
+  pub pos : ℕ
+  pub timing : List ℕ
+  pub typed : Stream
+  pub shown : Stream
+
+-- The moments of its timing are counted from its own.
+abbrev pub at_front : Message → Progress
+at_front message = record { moment = later 0 message.pos; typed = message.typed; shown = message.shown }
+
+-- What its timing tells.
+abbrev pub story_of : Message → Story
+story_of message = items (length message.timing) (at_front message) message.timing
 
 -- The version of the format is 1 or 2, with a point and digits behind it, or nothing.
 abbrev pub is_minor : List ℕ → Bool

@@ -12,10 +12,13 @@ use Rattle.tape_import.specs.Asciicast.{sided}
 use Rattle.tape_import.specs.declared.event.Event.{Event}
 use Rattle.tape_import.specs.declared.event.What.{What}
 use Rattle.tape_import.specs.declared.event.What.TheVariants as what
-use Rattle.tape_import.specs.declared.tlog_message.Message.{Message}
-use Rattle.tape_import.specs.declared.tlog_message.Stream.{Stream}
 use Rattle.tape_import.specs.declared.tlog_timing.Word.{Word}
 use Rattle.tape_import.specs.declared.tlog_timing.Word.TheVariants as word
+
+-- What was typed, or what was shown, in a message: characters, and bytes that are none.
+pub record Stream : Type 0 where
+  pub text : List ℕ
+  pub bytes : List ℕ
 
 -- A character is a byte with the bytes from 128 to 191 behind it, whatever they are (ours). How many bytes the first so
 -- many characters of a text have, where it has so many.
@@ -141,10 +144,3 @@ abbrev pub items : ℕ → Progress → List ℕ → Story
 items most so_far [] = record { events = []; whole = true }
 items zero so_far (sign ∷ text) = record { events = []; whole = false }
 items (suc most) so_far (sign ∷ text) = go_on (items most) (step_at so_far sign text)
-
--- The moments of a message are counted from its own, which it tells in milliseconds.
-abbrev pub at_front : Message → Progress
-at_front message = record { moment = later 0 message.pos; typed = message.typed; shown = message.shown }
-
-abbrev pub story_of : Message → Story
-story_of message = items (length message.timing) (at_front message) message.timing

@@ -1,11 +1,16 @@
 //! What a recording tells of itself.
-ghost use Rattle.std.specs.Prelude.{◌≡◌, ◌≤◌, IfSome, MatchOption};
+ghost use Rattle.std.specs.Prelude.{◌≡◌, ◌≤◌, IfSome, MatchOption, min};
+ghost use Rattle.std.specs.Char.{is_ascii_digit};
+ghost use Rattle.std.specs.List.{AllPass};
+ghost use Rattle.std.specs.Option.{option_map};
+ghost use Rattle.tape_core.specs.Seconds.{last_moment};
 ghost use Rattle.tape_core.specs.Text.{number_of};
 ghost use Rattle.tape_import.specs.Facts.{asked_size, parted, reported_size, side, size_of, without_choice};
 ghost use Rattle.tape_import.specs.Kept.{IsSize};
 
 use tape_core::Bytes;
-use tape_core::text::{position_of, read_number};
+use tape_core::limits::LAST_MOMENT;
+use tape_core::text::{are_digits, number, position_of};
 
 /// The size of a terminal.
 #[derive(Clone, Copy, Debug, PartialEq, Eq)]
@@ -23,14 +28,39 @@ pub struct Facts {
     pub size: Option<Size>,
 }
 
+/// The number that digits write, where there are any; one above 10^18 counts as 10^18.
+pub fn read_digits(digits: &[u8]) -> Option<u64>
+    requires { AllPass is_ascii_digit digits.now }
+    ensures { result ≡ option_map (λ n. min n last_moment) (number_of digits.now) }
+{
+    if digits.is_empty() {
+        None
+    } else {
+        Some(number(digits, LAST_MOMENT))
+    }
+}
+
+/// The number that digits write, where a terminal may have so many columns or lines.
+pub fn side_of(digits: &[u8]) -> Option<u64>
+    requires { AllPass is_ascii_digit digits.now }
+    ensures side { result ≡ side (number_of digits.now) }
+    ensures small { IfSome result (λ n. n ≤ 9999) }
+{
+    match read_digits(digits) {
+        Some(number) if (1..=9999).contains(&number) => Some(number),
+        _ => None,
+    }
+}
+
 /// The number of digits that a text writes, where a terminal may have so many columns or lines.
 pub fn side(text: &[u8]) -> Option<u64>
     ensures side { result ≡ side (number_of text.now) }
     ensures small { IfSome result (λ n. n ≤ 9999) }
 {
-    match read_number(text) {
-        Some(number) if (1..=9999).contains(&number) => Some(number),
-        _ => None,
+    if are_digits(text) {
+        side_of(text)
+    } else {
+        None
     }
 }
 

@@ -1,5 +1,5 @@
 //! The members of a message of tlog, each by what it tells.
-ghost use Rattle.std.specs.Prelude.{◌≡◌, ℕ, [], IfOk, List, MatchOption, None, OnOk, Option, Some};
+ghost use Rattle.std.specs.Prelude.{◌≡◌, ℕ, [], IfOk, List, MatchOption, None, OnOk, Option, Some, false, true};
 ghost use Rattle.std.specs.Option.{option_map};
 ghost use Rattle.json_bytes.specs.Listed.{valued};
 ghost use Rattle.json_bytes.specs.Strings.{meant};
@@ -95,7 +95,7 @@ impl<'a> Given<'a> {
 
 impl<'a> Fields<'a> {
     /// No member was read yet. Takes no memory.
-    fn none(alloc: Global) -> Fields<'a>
+    pub fn none(alloc: Global) -> Fields<'a>
         ensures { Tells none_told result }
     {
         Fields {
@@ -185,23 +185,22 @@ impl<'a> Fields<'a> {
         }
         Ok(None)
     }
-}
 
-/// What the members of the object tell that a line is; as of none where it is no object.
-pub fn read_fields(alloc: Global, line: &[u8]) -> Result<Fields<'_>, AllocError>
-    ensures { IfOk result (Tells (λ name. member_of name (json_of line.now))) }
-{
-    let mut fields = Fields::none(alloc);
-    let object = past_space(line);
-    if !object.starts_with(b"{") {
-        return Ok(fields);
-    }
-    let Some(rest) = fields.read_object(alloc, object)? else {
-        return Ok(Fields::none(alloc));
-    };
-    if past_space(rest).is_empty() {
-        Ok(fields)
-    } else {
-        Ok(Fields::none(alloc))
+    /// Reads what the members of the object tell that a line is, and tells whether it is one.
+    pub fn read(&mut self, alloc: Global, line: &'a [u8]) -> Result<bool, AllocError>
+        requires { Tells none_told self.old }
+        ensures told { IfOk result (λ whole. whole ≡ true
+            → Tells (λ name. member_of name (json_of line.now)) self.new) }
+        ensures none { IfOk result (λ whole. whole ≡ false
+            → (name : List ℕ) → member_of name (json_of line.now) ≡ None) }
+    {
+        let object = past_space(line);
+        if !object.starts_with(b"{") {
+            return Ok(false);
+        }
+        let Some(rest) = self.read_object(alloc, object)? else {
+            return Ok(false);
+        };
+        Ok(past_space(rest).is_empty())
     }
 }

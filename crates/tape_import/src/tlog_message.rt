@@ -11,13 +11,11 @@ ghost use Rattle.tape_import.specs.Dates.{last_second};
 ghost use Rattle.tape_import.specs.Facts.{is_term_byte};
 ghost use Rattle.tape_import.specs.KeptCast.{IsSized};
 ghost use Rattle.tape_import.specs.KeptTlog.{CanHead, IsRead, Tells, shown_head, shown_stream};
-ghost use Rattle.tape_import.specs.TlogMessage.{count_of, is_minor, is_version, is_versioned, message_of, message_told, short_number, stream_by};
-ghost use Rattle.tape_import.specs.TlogTiming.{story_of};
-ghost use Rattle.tape_import.specs.declared.tlog_message.Message.{Message};
+ghost use Rattle.tape_import.specs.TlogMessage.{Message, count_of, is_minor, is_version, is_versioned, message_of, message_told, story_of, stream_by};
 
 use crate::cast_header::{date_at, term_by};
 use crate::event::Event;
-use crate::tlog_fields::{Fields, Given, read_fields};
+use crate::tlog_fields::{Fields, Given};
 use crate::tlog_stream::Rest;
 use crate::tlog_timing::Progress;
 use json_bytes::{ReadValue, StringBytes, bytes_in};
@@ -25,14 +23,6 @@ use std::alloc::{AllocError, Global};
 use std::collections::VecDeque;
 use tape_core::Bytes;
 use tape_core::text::read_number;
-
-/// What was typed, or what was shown, in a message: characters, and bytes that are none. The definitions speak of it;
-/// what is read of a line is a `Rest` of it.
-#[derive(Debug, Drop)]
-pub struct Stream {
-    pub text: Bytes,
-    pub bytes: Bytes,
-}
 
 /// What a message tells of its recording: the message's number, the names of the recording and of the terminal, and the
 /// second, where these are told.
@@ -42,17 +32,6 @@ pub struct Head {
     pub recording: Option<Bytes>,
     pub term: Option<Bytes>,
     pub date: Option<u64>,
-}
-
-/// A message: its moment in milliseconds, and what was typed and shown from then on, by its timing. The definitions speak
-/// of it; what is read of a line is a `MessageRead`.
-#[derive(Debug, Drop)]
-pub struct Message {
-    pub head: Head,
-    pub pos: u64,
-    pub timing: Bytes,
-    pub typed: Stream,
-    pub shown: Stream,
 }
 
 /// What a message tells of its recording, as it stands in its line: it is worked out of the first one alone.
@@ -104,23 +83,13 @@ pub fn is_versioned(alloc: Global, value: &ReadValue) -> Result<bool, AllocError
     }
 }
 
-/// The number of at most 18 digits alone that a text is.
-fn short_number(text: &[u8]) -> Option<u64>
-    ensures { result ≡ short_number text.now }
-{
-    if text.len() <= 18 {
-        read_number(text)
-    } else {
-        None
-    }
-}
-
-/// The number that a value is.
+/// The number of at most 18 digits alone that a value is.
 #[inline]
 pub fn count_of(value: &ReadValue) -> Option<u64>
     ensures { result ≡ count_of (Some (valued 63 value.now)) }
 {
-    short_number(value.plain_digits()?)
+    let (count, len) = value.plain_count()?;
+    if len <= 18 { Some(count) } else { None }
 }
 
 /// The bytes that a value tells as an array of numbers.
@@ -238,7 +207,11 @@ pub fn read_message<'a>(
         × (events.new.items ≡ events.old.items ++ (story_of message).events))) }
     ensures sized { OnOk result (All (λ e. IsSized e.what) events.new.items) }
 {
-    let Some(message) = message_told(read_fields(alloc, line)?) else {
+    let mut fields = Fields::none(alloc);
+    if !fields.read(alloc, line)? {
+        return Ok(None);
+    }
+    let Some(message) = message_told(fields) else {
         return Ok(None);
     };
     let MessageRead {

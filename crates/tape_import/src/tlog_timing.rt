@@ -11,7 +11,7 @@ ghost use Rattle.tape_import.specs.KeptTlog.{IsSizedWord, continued_len, events_
 ghost use Rattle.tape_import.specs.TlogTiming.{both_counted, characters_len, counted, digits_at, goes_on, items, later, step_at, step_by, two_at, word_behind};
 
 use crate::event::{Event, What};
-use crate::facts::{Size, side, size_of};
+use crate::facts::{Size, side_of, size_of};
 use crate::tlog_stream::Rest;
 use json_bytes::split_digits;
 use std::alloc::{AllocError, Global};
@@ -174,7 +174,7 @@ fn size_at(text: &[u8]) -> Option<(Option<Size>, &[u8])>
     ensures small { IfSome result (λ r. IfSome r.0 IsSize) }
 {
     let (columns, lines, rest) = two_at(b'x', text)?;
-    Some((size_of(side(columns), side(lines)), rest))
+    Some((size_of(side_of(columns), side_of(lines)), rest))
 }
 
 /// The item behind its sign, and what stands behind it.

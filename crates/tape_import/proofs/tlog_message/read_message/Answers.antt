@@ -1,20 +1,26 @@
-use Rattle.std.proofs.Common.{◌≡◌, ◌++◌, ◌∙◌, Bool, List, None, Option, Some, ap, false, if◌then◌else◌, length, sym, true, ℕ}
-use Rattle.json_bytes.specs.Values.{Json, json_of, member_of}
+use Rattle.std.proofs.Common.{◌≡◌, ◌++◌, ◌∙◌, Bool, List, None, Option, Some, ap, codes, false, if◌then◌else◌, length, sym, true, ℕ}
+use Rattle.json_bytes.specs.Values.{Json, json_of, member_of, string_of}
 use Rattle.tape_import.specs.KeptTlog.{shown_progress}
-use Rattle.tape_import.specs.TlogMessage.{if_whole, message_of, message_told}
-use Rattle.tape_import.specs.TlogTiming.{Progress, Story, items, story_of}
+use Rattle.tape_import.specs.TlogMessage.{count_of, head_of, if_whole, is_versioned, message_by, message_of, message_told, shown_of, story_of, typed_of}
+use Rattle.tape_import.specs.TlogTiming.{Progress, Story, items}
 use Rattle.tape_import.proofs.tlog_message.read_message.Goals as goal
+
+pub returns-then-not-branch-clause-message : goal.returns-then-not-branch-clause-message
+returns-then-not-branch-clause-message c =
+    let told : List ℕ → Option Json = λ name. member_of name (json_of c.args.line.now) in
+    let unversioned : is_versioned (string_of (told (codes "ver"))) ≡ false = ap (λ v. is_versioned (string_of v)) (c.in_ok-read.ensures.none c.if-not-branch.true (codes "ver")) in
+    ap (λ b. if_whole (if b then message_by (head_of told) (count_of (told (codes "pos"))) (string_of (told (codes "timing"))) (typed_of told) (shown_of told) else None)) unversioned
 
 pub returns-in_default-clause-message : goal.returns-in_default-clause-message
 returns-in_default-clause-message c =
     let told : List ℕ → Option Json = λ name. member_of name (json_of c.args.line.now) in
-    let none : message_told told ≡ None = c.in_default.ensures told c.in_ok-read_fields.ensures in
+    let none : message_told told ≡ None = c.in_default.ensures told (c.in_ok-read.ensures.told c.if-not-branch.false) in
     ap if_whole none
 
 pub returns-then-branch-clause-message : goal.returns-then-branch-clause-message
 returns-then-branch-clause-message c =
     let told : List ℕ → Option Json = λ name. member_of name (json_of c.args.line.now) in
-    let read = c.in-Some.ensures told c.in_ok-read_fields.ensures in
+    let read = c.in-Some.ensures told (c.in_ok-read.ensures.told c.if-not-branch.false) in
     let message = read.0 in
     let timing = c.as_slice.result.now in
     let so_far = shown_progress c.in-Some.message.so_far in
@@ -27,7 +33,7 @@ returns-then-branch-clause-message c =
 pub returns-clause-message : goal.returns-clause-message
 returns-clause-message c =
     let told : List ℕ → Option Json = λ name. member_of name (json_of c.args.line.now) in
-    let read = c.in-Some.ensures told c.in_ok-read_fields.ensures in
+    let read = c.in-Some.ensures told (c.in_ok-read.ensures.told c.if-not-branch.false) in
     let message = read.0 in
     let timing = c.as_slice.result.now in
     let so_far = shown_progress c.in-Some.message.so_far in
