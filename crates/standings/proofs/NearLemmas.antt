@@ -307,6 +307,19 @@ written_nothing was above before letters text from lt within some is clear left 
     ap (λ (r : Row). starts_with nat_eq (drop k r.characters ++ rest) text) written
     ∙ none_written (row_below was above).characters letters text from before (omega (arith, is)) within left right k low high rest) none
 
+-- what stands there already
+pub rows_same : (above before : ℕ) (letters : List ℕ) (rows : List Row) → letters ≡ take (length letters) (drop before (row_below rows above).characters)
+    → rows_written above before letters rows ≡ rows
+rows_same above before letters rows is =
+    let row = row_below rows above in
+    let pre = take before row.characters in
+    let post = drop (before + length letters) row.characters in
+    let rest : letters ++ post ≡ drop before row.characters =
+    ap₂ (λ a b. a ++ b) is (sym (drop-drop (length letters) before row.characters)) ∙ take-append-drop (length letters) (drop before row.characters) in
+    let same : row_written before letters row ≡ row =
+    ap (λ l. record row { characters = l }) (append_assoc pre letters post ∙ ap (λ l. pre ++ l) rest ∙ take-append-drop before row.characters) in
+    ap (set rows above) same ∙ set-get_or rows above empty_row
+
 -- what was written over, written over it again
 pub written_back : (before : ℕ) (letters was : List ℕ) (row : Row) → before + length letters ≤ length row.characters
     → was ≡ take (length letters) (drop before row.characters) → row_written before was (row_written before letters row) ≡ row

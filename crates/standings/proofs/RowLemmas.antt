@@ -73,13 +73,13 @@ told_here rows at from rest found lt fits told =
     let row = row_below rows at in
     ap (λ l. starts_with nat_eq l rest) (sym (line_behind row (drop (at + 1) rows) from fits) ∙ ap (λ l. drop from (line_text l)) (sym (rows_at rows at lt))) ∙ told
 
--- what can't go on from the first row on
-pub line_along : (rows : List Row) (before : ℕ) (text : List ℕ) → before < length (row_below rows 0).characters
-    → ((rest : List ℕ) → starts_with nat_eq (drop before (row_below rows 0).characters ++ rest) text ≡ false)
-    → begins text (line_text rows) before ≡ false
-line_along [] before text lt none = absurd (omega arith)
-line_along (row ∷ rows) before text lt none =
-    ap (λ l. starts_with nat_eq l text) (line_behind row rows before (omega arith)) ∙ none (cond row.runs_on (line_text rows) [])
+-- what goes on so whatever comes behind the first row
+pub line_along : (rows : List Row) (before : ℕ) (text : List ℕ) (told : Bool) → before < length (row_below rows 0).characters
+    → ((rest : List ℕ) → starts_with nat_eq (drop before (row_below rows 0).characters ++ rest) text ≡ told)
+    → begins text (line_text rows) before ≡ told
+line_along [] before text told lt is = absurd (omega arith)
+line_along (row ∷ rows) before text told lt is =
+    ap (λ l. starts_with nat_eq l text) (line_behind row rows before (omega arith)) ∙ is (cond row.runs_on (line_text rows) [])
 
 -- where another character stands than its first
 pub first_differs : (characters text rest : List ℕ) (before : ℕ) → 0 < length text → before < length characters

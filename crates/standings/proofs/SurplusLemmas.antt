@@ -1,16 +1,16 @@
 -- What is kept for each left part with which a row begins, a place further.
-use Rattle.std.proofs.Common.{◌≡◌, ℕ, suc, ◌+◌, ◌-◌, ◌*◌, ◌<◌, ◌&&◌, ◌||◌, Bool, false, true, List, drop, get_or, length, nat_eq, nat_le, set, take, cond, refl, ap, sym, ◌∙◌, arith, inl, inr}
+use Rattle.std.proofs.Common.{◌≡◌, ℕ, suc, ◌+◌, ◌-◌, ◌*◌, ◌<◌, ◌≤◌, ◌&&◌, ◌||◌, Bool, false, true, List, drop, get_or, length, nat_eq, nat_le, set, take, cond, refl, ap, sym, ◌∙◌, arith, inl, inr}
 use Rattle.std.specs.Cmp.Lexicographic.{pointwise}
 use Rattle.std.specs.List.{starts_with}
 use Rattle.std.proofs.Math.Nat.{mul-suc}
-use Rattle.std.proofs.lemmas.Bool.{cases_Bool, cases_eq, cases_lt, le-leb, lt-leb}
-use Rattle.std.proofs.lemmas.List.{get_or-set_other, get_or-set_same}
+use Rattle.std.proofs.lemmas.Bool.{cases_Bool, cases_eq, cases_lt, false≢true, le-leb, lt-leb}
+use Rattle.std.proofs.lemmas.List.{get_or-drop, get_or-set_other, get_or-set_same, get_or-take, get_or_past, length-take, take-take}
 use Rattle.standings.specs.Less.{for_left, is_last}
-use Rattle.standings.specs.Rows.{Row}
+use Rattle.standings.specs.Rows.{Row, empty_row, row_below}
 use Rattle.standings.specs.Standing.{count_left, left_of, place_at}
 use Rattle.standings.specs.declared.place.Place.{Place}
-use Rattle.standings.proofs.CountLemmas.{counted, counted_from}
-use Rattle.standings.proofs.LeftLemmas.{for_set, left_same, other_left, same_left}
+use Rattle.standings.proofs.CountLemmas.{counted, counted_from, one_has}
+use Rattle.standings.proofs.LeftLemmas.{for_set, front_fits, front_is, is_front, left_same, other_left, same_left}
 
 -- ---- counted
 
@@ -199,12 +199,72 @@ or_false true = refl
 or_false false = refl
 
 pub none_told : (row surplus : List ℕ) (rows : List Row) (places : List Place) (told : Bool) (n : ℕ) → n < length places
-    → ((left : List ℕ) → for_left surplus left ≡ 0) → told ≡ (told || is_last row rows places surplus n)
+    → ((left : List ℕ) → starts_with nat_eq row left ≡ true → for_left surplus left ≡ 0) → told ≡ (told || is_last row rows places surplus n)
 none_told row surplus rows places told n lt none =
     let left = left_of rows (place_at places n) in
     let own : cond {A = ℕ} (pointwise nat_eq left left) 1 0 ≡ 1 = rw (left_same left left refl) refl in
     let last : is_last row rows places surplus n ≡ false = elim (cases_Bool (starts_with nat_eq row left)) [
-      | inl begins ↦ rw begins (lt-leb (count_left rows (drop n places) left) (for_left surplus left) (omega (arith, own, counted_from rows places n left lt, none left)))
+      | inl begins ↦ rw begins (lt-leb (count_left rows (drop n places) left) (for_left surplus left) (omega (arith, own, counted_from rows places n left lt, none left begins)))
       | inr fails ↦ rw fails refl
     ] in
     sym (or_false told) ∙ ap (λ b. told || b) (sym last)
+
+-- ---- where left parts of fewer characters than so many have none
+
+pub none_long : (row counts : List ℕ) (least : ℕ) (left : List ℕ) → length row < least → ((k : ℕ) → k < least → get_or counts k 0 ≡ 0)
+    → starts_with nat_eq row left ≡ true → for_left counts left ≡ 0
+none_long row counts least left short none begins = none (length left) (omega (arith, short, front_fits row left begins))
+
+pub none_still : (counts : List ℕ) (least len value k : ℕ) → ((n : ℕ) → n < least → get_or counts n 0 ≡ 0) → 0 < get_or counts len 0 → k < least
+    → get_or (set counts len value) k 0 ≡ 0
+none_still counts least len value k none some lt = elim (cases_eq k len) [
+  | inl is ↦ absurd (omega (arith, some, ap (λ n. get_or counts n 0) is, none k lt))
+  | inr apart ↦ get_or-set_other counts len k value 0 apart ∙ none k lt
+]
+
+-- nor those of a block
+pub none_block : {X : Type 0} (xs : List X) (from count k : ℕ) (x : X) → ((n : ℕ) → get_or (take count (drop from xs)) n x ≡ x) → from ≤ k → k < from + count → get_or xs k x ≡ x
+none_block xs from count k x none low high =
+    let here : from + (k - from) ≡ k = omega (arith, low) in
+    ap (λ n. get_or xs n x) (sym here) ∙ sym (get_or-drop from xs (k - from) x)
+    ∙ sym (get_or-take count (drop from xs) (k - from) x (omega (arith, low, high))) ∙ none (k - from)
+
+no_less : (n : ℕ) → n ≤ 0 → n ≡ 0
+no_less n le = omega (arith, le)
+
+-- what begins with a left part of a row begins with as many of the row's first characters
+front_shared : (row characters left : List ℕ) (before least : ℕ) → starts_with nat_eq row left ≡ true → take before characters ≡ left → least ≤ length left
+    → starts_with nat_eq characters (take least row) ≡ true
+front_shared row characters left before least begins is le =
+    let some : length left ≤ before = omega (arith, ap length is, length-take before characters) in
+    let fits : length (take least row) ≡ least = omega (arith, length-take least row, front_fits row left begins, le) in
+    is_front characters (take least row)
+    (sym (take-take least (length left) row le) ∙ ap (take least) (sym (front_is row left begins)) ∙ ap (take least) (sym is)
+    ∙ take-take least before characters (omega (arith, le, some)) ∙ ap (λ n. take n characters) (sym fits))
+
+-- where no row begins with as many of the row's first characters no place has one that counts
+pub none_here : (row counts : List ℕ) (rows : List Row) (places : List Place) (least each : ℕ) (left : List ℕ) → 0 < length (take least row)
+    → ((k : ℕ) → k < least → get_or counts k 0 ≡ 0)
+    → ((above : ℕ) → above < length rows → starts_with nat_eq (row_below rows above).characters (take least row) ≡ false)
+    → starts_with nat_eq row left ≡ true → for_left counts left ≡ for_left counts left - each * count_left rows places left
+none_here row counts rows places least each left some none apart begins = elim (cases_lt (length left) least) [
+  | inl low ↦ omega (arith, none (length left) low)
+  | inr high ↦ elim (cases_lt 0 (count_left rows places left)) [
+    | inr zero ↦ omega (arith, ap (λ n. each * n) (no_less (count_left rows places left) zero))
+    | inl has ↦
+        let one = one_has rows places left has in
+        let place = place_at places one.0 in
+        elim (cases_lt place.above (length rows)) [
+          | inl below ↦ absurd (false≢true (sym (apart place.above below) ∙ front_shared row (row_below rows place.above).characters left place.before least begins one.2 (omega (arith, high))))
+          | inr past ↦ absurd (omega (
+            arith,
+            some,
+            high,
+            length-take least row,
+            ap length one.2,
+            length-take place.before (row_below rows place.above).characters,
+            ap (λ (r : Row). length r.characters) (get_or_past rows place.above empty_row (omega (arith, past))),
+          ))
+        ]
+  ]
+]

@@ -11,7 +11,7 @@ ghost use Rattle.standings.specs.Written.{rows_written};
 
 use crate::follow::follow_rows;
 use crate::lag::Lag;
-use crate::near::{count_near, look_near, may_come_near, may_go_on};
+use crate::near::{count_near, look_near, may_come_near, may_go_on, stand_there};
 use crate::place::{Place, look_between, may_come, may_come_below, move_places_up, standing};
 use crate::row::{
     Row, characters_below, move_rows_up, shift_down, shift_up, turn_rows, turn_rows_back,
@@ -117,7 +117,7 @@ impl Standing {
 
     /// These characters are written over as many of the row below so many others, from the one behind so many on; looks
     /// where the text stands then. Says which rows may differ. Nothing is done where there is no such row, or it has too
-    /// few characters, and nothing where memory is refused.
+    /// few characters, nothing where they stand there already, and nothing where memory is refused.
     pub fn write(
         &mut self,
         above: usize,
@@ -137,6 +137,9 @@ impl Standing {
         ensures refused_places { OnErr result (self.new.places.items ≡ self.old.places.items) }
     {
         if above >= self.rows.len() || !self.rows[above].has(before, letters.len()) {
+            return Ok(Span::none());
+        }
+        if !self.places.is_empty() && stand_there(self.rows.as_slice(), above, before, letters) {
             return Ok(Span::none());
         }
         let span = Span {
@@ -272,12 +275,15 @@ pub fn is_lone(here: &Standing, one: &Standing, at: usize) -> bool
 }
 
 /// Whether a text of so many characters ends, at each place at which it stands, before what is written behind so many
-/// characters of a row: it ends there, or inside a row above, or stands in a row below.
+/// characters of a row: it ends there, or inside a row above, or stands in a row below. They are looked at from the last one
+/// on, since few stand below what is written.
 pub fn ends_before(still: &Standing, len: usize, above: usize, before: usize) -> bool
     ensures { result ≡ true → EndBy len still.now.rows.items still.now.places.items above before }
 {
-    for place in &still.places {
-        if !ends_by(still.rows.as_slice(), *place, len, above, before) {
+    let mut at = still.places.len();
+    while at > 0 {
+        at -= 1;
+        if !ends_by(still.rows.as_slice(), still.places[at], len, above, before) {
             return false;
         }
     }

@@ -16,6 +16,12 @@ use crate::place::Place;
 use crate::row::{Row, characters_below};
 use std::alloc::{AllocError, Global};
 
+// How many left parts are asked at once whether they have a surplus.
+const BLOCK: usize = 8;
+
+// How many places are asked at once whether it is told of one.
+const PLACES: usize = 16;
+
 /// Which places of a screen are less on another. Where memory is refused it is told of none, and each is asked for alone.
 #[derive(Drop)]
 pub struct Less {
@@ -43,6 +49,20 @@ impl Less {
         ensures all { (count : ℕ) → HasAll result count }
     {
         Less { told: None }
+    }
+
+    /// The next place of the screen, from one on, that may be less on the other: none of those before it is.
+    #[inline]
+    pub fn next(&self, from: usize) -> usize
+        ensures low { from ≤ result }
+        ensures within { (count : ℕ) → HasAll self.now count → from ≤ count → result ≤ count }
+        ensures passed { (one other : List Row) (places others : List Place) → IsTold self.now one places other others
+            → (n : ℕ) → from ≤ n → n < result → n < length places → is_less one places other others n ≡ false }
+    {
+        match &self.told {
+            Some(told) => next_told(told.as_slice(), from),
+            None => from,
+        }
     }
 
     /// Whether a place of the screen is less on the other.
@@ -102,6 +122,22 @@ impl Passed {
         Passed { told: None }
     }
 
+    /// The next place of the screen, from one on, that may have passed: none of those before it did.
+    #[inline]
+    pub fn next(&self, from: usize) -> usize
+        ensures low { from ≤ result }
+        ensures within { (count : ℕ) → HasEach self.now count → from ≤ count → result ≤ count }
+        ensures passed { (first last one other : List Row) (firsts lasts places others : List Place)
+            → ArePassed self.now first firsts last lasts one places other others
+            → (n : ℕ) → from ≤ n → n < result → n < length places
+            → has_passed first firsts last lasts one places other others n ≡ false }
+    {
+        match &self.told {
+            Some(told) => next_told(told.as_slice(), from),
+            None => from,
+        }
+    }
+
     /// Whether a place of the screen passed.
     #[inline]
     pub fn has(
@@ -126,6 +162,45 @@ impl Passed {
             None => { is_lone(first, one, at) && is_lone(last, one, at) && is_less(one, at, other) }
         }
     }
+}
+
+/// The next place from one on of which it is told, or the end.
+fn next_told(told: &[bool], from: usize) -> usize
+    ensures low { from ≤ result }
+    ensures within { from ≤ length told.now → result ≤ length told.now }
+    ensures none { (n : ℕ) → from ≤ n → n < result → slice_index_or told.now n false ≡ false }
+{
+    let mut at = past_untold(told, from);
+    while at < told.len() && !told[at] {
+        at += 1;
+    }
+    at
+}
+
+/// The same by whole blocks: there is none before it.
+#[inline(always)]
+fn past_untold(told: &[bool], from: usize) -> usize
+    ensures low { from ≤ result }
+    ensures within { from ≤ length told.now → result ≤ length told.now }
+    ensures none { (n : ℕ) → from ≤ n → n < result → slice_index_or told.now n false ≡ false }
+{
+    let mut at = from;
+    while at < told.len() && told.len() - at >= PLACES && !some_told(&told[at..at + PLACES]) {
+        at += PLACES;
+    }
+    at
+}
+
+/// Whether it is told of some place. It goes over all of them with no way out, since that is done many at a time.
+#[inline(always)]
+fn some_told(told: &[bool]) -> bool
+    ensures { result ≡ false → (n : ℕ) → slice_index_or told.now n false ≡ false }
+{
+    let mut some = false;
+    for one in told {
+        some |= *one;
+    }
+    some
 }
 
 /// The screens at the ends of a chunk.
@@ -155,10 +230,11 @@ fn tell(
     let mut surplus = Vec::new(alloc);
     let mut at = 0;
     while at < alone.one.len() {
-        let row = characters_below(one.rows.as_slice(), alone.one[at].above);
-        find_surplus(row, one, other, alone, &mut surplus)?;
+        let above = alone.one[at].above;
+        let row = characters_below(one.rows.as_slice(), above);
+        find_surplus(row, above, one, other, alone, &mut surplus)?;
         spend(row, ends, surplus.as_mut_slice());
-        tell_last(row, one, surplus.as_mut_slice(), told.as_mut_slice());
+        tell_last(row, above, one, surplus.as_mut_slice(), told.as_mut_slice());
         at = row_end(alone.one.as_slice(), at);
     }
     Ok(told)
@@ -180,18 +256,27 @@ fn spend(row: &[char], ends: Option<&Ends<'_>>, surplus: &mut [usize])
     }
 }
 
-/// Leaves no surplus of a left part that a place of a screen has.
+/// Leaves no surplus of a left part that a place of a screen has. Mostly none of its rows begins as the row does up to the
+/// first left part with one.
 fn take_all_off(row: &[char], still: &Standing, surplus: &mut [usize])
     requires { length row.now < length surplus.old }
     ensures { (left : List ℕ) → starts_with nat_eq row.now left ≡ true
         → for_left surplus.new left ≡ for_left surplus.old left
         - usize.MAX * count_left still.now.rows.items still.now.places.items left }
 {
+    let least = least_len(surplus);
+    if least > row.len() {
+        return;
+    }
+    if !some_begins(still.rows.as_slice(), &row[..least]) {
+        return;
+    }
     take_off(
         row,
         still.rows.as_slice(),
         still.places.as_slice(),
         usize::MAX,
+        least,
         surplus,
     );
 }
@@ -227,8 +312,9 @@ fn some_pass(
     let mut surplus = Vec::new(alloc);
     let mut at = 0;
     while at < alone.one.len() {
-        let row = characters_below(one.rows.as_slice(), alone.one[at].above);
-        if some_pass_with(row, first, one, other, alone, &mut surplus)? {
+        let above = alone.one[at].above;
+        let row = characters_below(one.rows.as_slice(), above);
+        if some_pass_with(row, above, first, one, other, alone, &mut surplus)? {
             return Ok(true);
         }
         at = row_end(alone.one.as_slice(), at);
@@ -236,15 +322,17 @@ fn some_pass(
     Ok(false)
 }
 
-/// The same of the places with a left part that a row begins with.
+/// The same of the places with a left part that a row begins with: the one below so many others.
 fn some_pass_with(
     row: &[char],
+    above: usize,
     first: &Standing,
     one: &Standing,
     other: &Standing,
     alone: &Alone,
     surplus: &mut Vec<usize>,
 ) -> Result<bool, AllocError>
+    requires { row.now ≡ (row_below one.now.rows.items above).characters }
     ensures none { PairOff one.now.rows.items one.now.places.items other.now.rows.items
         other.now.places.items alone.now.one.items alone.now.other.items
         → IfOk result (λ some. some ≡ false → (n : ℕ) → n < length one.now.places.items
@@ -258,7 +346,7 @@ fn some_pass_with(
         × (may_pass first.now.rows.items first.now.places.items one.now.rows.items one.now.places.items
         other.now.rows.items other.now.places.items n ≡ true)) }
 {
-    find_surplus(row, one, other, alone, surplus)?;
+    find_surplus(row, above, one, other, alone, surplus)?;
     let counts = surplus.as_mut_slice();
     take_all_off(row, first, counts);
     Ok(!is_spent(counts))
@@ -277,14 +365,17 @@ fn may_pass_plainly(first: &Standing, one: &Standing, other: &Standing) -> bool
     false
 }
 
-/// How many places more one screen has than the other with each left part that a row begins with.
+/// How many places more one screen has than the other with each left part that a row begins with: the one below so many
+/// others.
 fn find_surplus(
     row: &[char],
+    above: usize,
     one: &Standing,
     other: &Standing,
     alone: &Alone,
     surplus: &mut Vec<usize>,
 ) -> Result<(), AllocError>
+    requires { row.now ≡ (row_below one.now.rows.items above).characters }
     ensures len { OnOk result (length surplus.new.items ≡ length row.now + 1) }
     ensures surplus { OnOk result (IsSurplus row.now one.now.rows.items alone.now.one.items
         other.now.rows.items alone.now.other.items surplus.new.items) }
@@ -292,20 +383,80 @@ fn find_surplus(
     surplus.clear();
     surplus.resize(row.len() + 1, 0)?;
     let counts = surplus.as_mut_slice();
-    count_lefts(row, one.rows.as_slice(), alone.one.as_slice(), counts);
+    count_lefts(
+        row,
+        above,
+        one.rows.as_slice(),
+        alone.one.as_slice(),
+        counts,
+    );
     take_off(
         row,
         other.rows.as_slice(),
         alone.other.as_slice(),
         1,
+        0,
         counts,
     );
     Ok(())
 }
 
+/// How many characters the first left part with a surplus has: more than a row, where none has one.
+fn least_len(surplus: &[usize]) -> usize
+    ensures none { (k : ℕ) → k < result → slice_index_or surplus.now k 0 ≡ 0 }
+    ensures within { result ≤ length surplus.now }
+{
+    let mut len = spent_blocks(surplus);
+    while len < surplus.len() && surplus[len] == 0 {
+        len += 1;
+    }
+    len
+}
+
+/// How many of the first left parts have no surplus, by blocks.
+#[inline(always)]
+fn spent_blocks(surplus: &[usize]) -> usize
+    ensures none { (k : ℕ) → k < result → slice_index_or surplus.now k 0 ≡ 0 }
+    ensures within { result ≤ length surplus.now }
+{
+    let mut len = 0;
+    while surplus.len() - len >= BLOCK && is_spent(&surplus[len..len + BLOCK]) {
+        len += BLOCK;
+    }
+    len
+}
+
+/// Whether some row begins with these characters; where there are none, it is said of any rows. The last of them is looked
+/// at first.
+fn some_begins(rows: &[Row], front: &[char]) -> bool
+    ensures { result ≡ false → (0 < length front.now) × ((above : ℕ) → above < length rows.now
+        → starts_with nat_eq (row_below rows.now above).characters front.now ≡ false) }
+{
+    if front.is_empty() {
+        return true;
+    }
+    for row in rows {
+        if begins_with(row.characters(), front) {
+            return true;
+        }
+    }
+    false
+}
+
+/// Whether some characters begin with others.
+#[inline(always)]
+fn begins_with(characters: &[char], front: &[char]) -> bool
+    requires { 0 < length front.now }
+    ensures { result ≡ starts_with nat_eq characters.now front.now }
+{
+    let last = front.len() - 1;
+    last < characters.len() && characters[last] == front[last] && characters.starts_with(front)
+}
+
 /// Whether no left part has a surplus. It goes over all of them with no way out, since that is done many at a time.
+#[inline]
 fn is_spent(surplus: &[usize]) -> bool
-    ensures none { result ≡ true → (left : List ℕ) → for_left surplus.now left ≡ 0 }
+    ensures none { result ≡ true → (k : ℕ) → slice_index_or surplus.now k 0 ≡ 0 }
     ensures some { result ≡ false
         → (k : ℕ) × (k < length surplus.now) × (0 < slice_index_or surplus.now k 0) }
 {
@@ -316,13 +467,14 @@ fn is_spent(surplus: &[usize]) -> bool
     !some
 }
 
-/// Counts how many places have each left part that a row begins with.
-fn count_lefts(row: &[char], rows: &[Row], places: &[Place], counts: &mut [usize])
-    requires { counts.old ≡ replicate (length row.now + 1) 0 }
+/// Counts how many places have each left part that a row begins with: the one below so many others.
+fn count_lefts(row: &[char], above: usize, rows: &[Row], places: &[Place], counts: &mut [usize])
+    requires row { row.now ≡ (row_below rows.now above).characters }
+    requires none { counts.old ≡ replicate (length row.now + 1) 0 }
     ensures { (left : List ℕ) → starts_with nat_eq row.now left ≡ true
         → for_left counts.new left ≡ count_left rows.now places.now left }
 {
-    let mut agreed = Agreed::with_none(row, rows);
+    let mut agreed = Agreed::with_itself(row, rows, above);
     for place in places {
         if let Some(len) = agreed.len_left(row, rows, *place) {
             counts[len] += 1;
@@ -330,38 +482,49 @@ fn count_lefts(row: &[char], rows: &[Row], places: &[Place], counts: &mut [usize
     }
 }
 
-/// Takes so many off for each place with a left part that a row begins with.
-fn take_off(row: &[char], rows: &[Row], places: &[Place], each: usize, counts: &mut [usize])
-    requires { length row.now < length counts.old }
+/// Takes so many off for each place with a left part that a row begins with. None is left of one of fewer than so many
+/// characters.
+fn take_off(
+    row: &[char],
+    rows: &[Row],
+    places: &[Place],
+    each: usize,
+    least: usize,
+    counts: &mut [usize],
+)
+    requires many { length row.now < length counts.old }
+    requires none { (k : ℕ) → k < least → slice_index_or counts.old k 0 ≡ 0 }
     ensures { (left : List ℕ) → starts_with nat_eq row.now left ≡ true
         → for_left counts.new left ≡ for_left counts.old left - each * count_left rows.now places.now left }
 {
     let mut agreed = Agreed::with_none(row, rows);
     for place in places {
-        if let Some(len) = agreed.len_some(row, rows, *place, counts) {
+        if let Some(len) = agreed.len_from(least, row, rows, *place, counts) {
             counts[len] = counts[len].saturating_sub(each);
         }
     }
 }
 
-/// Tells of the last so many places with each left part that a row begins with. Where no such part has a surplus, which is
-/// seen at once, it tells of none.
-fn tell_last(row: &[char], still: &Standing, surplus: &mut [usize], told: &mut [bool])
+/// Tells of the last so many places with each left part that a row begins with: the one below so many others. Where no such
+/// part has a surplus, which is seen at once, it tells of none.
+fn tell_last(row: &[char], above: usize, still: &Standing, surplus: &mut [usize], told: &mut [bool])
+    requires row { row.now ≡ (row_below still.now.rows.items above).characters }
     requires surplus { length row.now < length surplus.old }
     requires told { length told.old ≡ length still.now.places.items }
     ensures { (n : ℕ) → n < length still.now.places.items
         → slice_index_or told.new n false ≡ (slice_index_or told.old n false
         || is_last row.now still.now.rows.items still.now.places.items surplus.old n) }
 {
-    if is_spent(surplus) {
+    let least = least_len(surplus);
+    if least > row.len() {
         return;
     }
     let rows = still.rows.as_slice();
-    let mut agreed = Agreed::with_none(row, rows);
+    let mut agreed = Agreed::with_itself(row, rows, above);
     let mut at = still.places.len();
     while at > 0 {
         at -= 1;
-        if let Some(len) = agreed.len_some(row, rows, still.places[at], surplus) {
+        if let Some(len) = agreed.len_from(least, row, rows, still.places[at], surplus) {
             surplus[len] -= 1;
             told[at] = true;
         }
@@ -383,6 +546,19 @@ impl Agreed {
     {
         let count = agreed_len(row, characters_below(rows, above));
         Agreed { above, count }
+    }
+
+    /// That of a row and itself, below so many others: all of it.
+    fn with_itself(row: &[char], rows: &[Row], above: usize) -> Self
+        requires { row.now ≡ (row_below rows.now above).characters }
+        ensures { Agree row.now (row_below rows.now result.above).characters result.count }
+    {
+        // What the rows are makes no difference.
+        let _unread = rows.len();
+        Agreed {
+            above,
+            count: row.len(),
+        }
     }
 
     /// That of a row and none, behind the last: nothing was compared yet.
@@ -436,5 +612,30 @@ impl Agreed {
             return self.len_left(row, rows, place);
         }
         None
+    }
+
+    /// The same where none is left of one of fewer than so many characters: a place behind so few has no longer one.
+    #[inline(always)]
+    fn len_from(
+        &mut self,
+        least: usize,
+        row: &[char],
+        rows: &[Row],
+        place: Place,
+        counts: &[usize],
+    ) -> Option<usize>
+        requires agree { Agree row.now (row_below rows.now self.old.above).characters self.old.count }
+        requires none { (k : ℕ) → k < least → slice_index_or counts.now k 0 ≡ 0 }
+        ensures agree { Agree row.now (row_below rows.now self.new.above).characters self.new.count }
+        ensures some { IfSome result (λ len. (len ≡ length (left_of rows.now place))
+            × (starts_with nat_eq row.now (left_of rows.now place) ≡ true)) }
+        ensures more { IfSome result (λ len. 0 < slice_index_or counts.now len 0) }
+        ensures none { result ≡ None → starts_with nat_eq row.now (left_of rows.now place) ≡ true
+            → for_left counts.now (left_of rows.now place) ≡ 0 }
+    {
+        if place.before < least {
+            return None;
+        }
+        self.len_some(row, rows, place, counts)
     }
 }

@@ -78,6 +78,16 @@ pub(crate) fn may_come_near(
         || may_begin_in(letters, &characters[before + letters.len()..], text)
 }
 
+/// Whether these characters stand in a row already, behind so many others: nothing changes where they are written there.
+pub(crate) fn stand_there(rows: &[Row], above: usize, before: usize, letters: &[char]) -> bool
+    requires row { above < length rows.now }
+    requires within { before + length letters.now ≤ length (row_below rows.now above).characters }
+    ensures { result ≡ true → rows_written above before letters.now rows.now ≡ rows.now }
+{
+    let characters = characters_below(rows, above);
+    characters[before..].starts_with(letters)
+}
+
 /// Whether a text that begins in a row above may go on in what is written behind so many characters of a row.
 pub(crate) fn may_go_on(rows: &[Row], text: &[char], above: usize, before: usize) -> bool
     requires { 0 < length text.now }

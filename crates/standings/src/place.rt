@@ -455,14 +455,20 @@ fn begins(rows: &[Row], before: usize, text: &[char]) -> bool
     if !may_begin(characters_below(rows, 0), before, text) {
         return false;
     }
+    if text.len() <= 1 {
+        // Of one character no more is to be seen.
+        return true;
+    }
     begins_along(rows, before, text)
 }
 
 /// Whether a character isn't another one than the first of a text.
 fn may_begin(characters: &[char], before: usize, text: &[char]) -> bool
     requires { before < length characters.now }
-    ensures { result ≡ false → (rest : List ℕ)
+    ensures differs { result ≡ false → (rest : List ℕ)
         → starts_with nat_eq (drop before characters.now ++ rest) text.now ≡ false }
+    ensures one { result ≡ true → length text.now ≤ 1 → (rest : List ℕ)
+        → starts_with nat_eq (drop before characters.now ++ rest) text.now ≡ true }
 {
     text.is_empty() || characters[before] == text[0]
 }

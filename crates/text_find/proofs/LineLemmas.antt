@@ -1,7 +1,7 @@
 -- What is written of a chunk that is played byte by byte.
 use Rattle.std.proofs.Common.{◌≡◌, ℕ, zero, suc, true, false, ◌+◌, ◌-◌, ◌<◌, ◌≤◌, Bool, ◌&&◌, cond, max, List, [], ◌∷◌, ◌++◌, append-nil, filter, length, get_or, map, nat_eq, take, Option, None, Some, refl, ap, subst, sym, ◌∙◌, arith, inl, inr}
 use Rattle.std.specs.List.{count_by, flat_map, range_with_len}
-use Rattle.std.proofs.lemmas.Bool.{cases_Bool, eq-eqb, lt-leb}
+use Rattle.std.proofs.lemmas.Bool.{cases_Bool, eq-eqb, false≢true, lt-leb}
 use Rattle.std.proofs.lemmas.List.{drop_more}
 use Rattle.std.proofs.lemmas.List.Concat.{flat_map-append}
 use Rattle.std.proofs.lemmas.List.Sums.{count_by_more_yes, sum_by-take-drop}
@@ -12,10 +12,11 @@ use Rattle.tape_core.specs.Law.{DueIsBelowTheCount}
 use Rattle.tape_core.specs.Tape.{Tape}
 use Rattle.chunk_walk.specs.Stops.{first_asked}
 use Rattle.chunk_walk.specs.Walk.{asked_places, is_asked}
-use Rattle.chunk_walk.proofs.TextLemmas.{passing_between, texts_from}
+use Rattle.chunk_walk.proofs.TextLemmas.{passing_between, range_split, texts_from}
 use Rattle.standings.specs.declared.left.Standing.{Standing}
 use Rattle.standings.specs.declared.place.Place.{Place}
 use Rattle.standings.specs.Found.{Found, found, found_line, found_text}
+use Rattle.standings.specs.Less.{has_passed}
 use Rattle.standings.specs.Rows.{Row}
 use Rattle.standings.specs.Standing.{count_left, gone, is_less, is_lone, left_of, passed, place_at, place_in, standing}
 use Rattle.text_find.specs.FindLines.{Screens, all_found, all_passed, found_from, found_in, found_of, lines_found, passed_at, rows_from, rows_within}
@@ -123,6 +124,14 @@ pub none_from : (f : ℕ → List ℕ) (a n : ℕ) → ((i : ℕ) → a ≤ i �
 none_from f a zero h = refl
 none_from f a (suc n) h = rw (h a (omega arith) (omega arith)) (none_from f (a + 1) n (λ i low high. h i (omega arith) (omega arith)))
 
+-- none of those between two: as far as the first of them all is written
+pub none_between : (f : ℕ → List ℕ) (m n : ℕ) → m ≤ n → ((k : ℕ) → m ≤ k → k < n → f k ≡ []) → texts_from f 0 n ≡ texts_from f 0 m
+none_between f m n le none =
+    let all : m + (n - m) ≡ n = omega (arith, le) in
+    ap (texts_from f 0) (sym all) ∙ ap (flat_map f) (range_split 0 m (n - m)) ∙ flat_map-append f (range_with_len 0 m) (range_with_len (0 + m) (n - m))
+    ∙ ap (λ l. texts_from f 0 m ++ l) (none_from f (0 + m) (n - m) (λ k low high. none k (omega (arith, low)) (omega (arith, high, le))))
+    ∙ append-nil (texts_from f 0 m)
+
 -- where the screen stays nothing passed
 pub nothing_passed : (text : List ℕ) (index due len : ℕ) (first : List Row) (firsts : List Place) (last : List Row) (lasts : List Place) (one : List Row) (places : List Place) (other : List Row)
     → one ≡ other → places ≡ standing text one
@@ -172,6 +181,20 @@ pub none_of_all : (index due len : ℕ) (first : List Row) (firsts : List Place)
 none_of_all index due len first firsts last lasts one places other others none =
     none_from (passed_line index due len first firsts last lasts one places other others) 0 (length places)
     (λ n low high. none_at index due len first firsts last lasts one places other others n (none n (omega arith)))
+
+-- nor where a place didn't pass
+pub not_passed : (index due len : ℕ) (first : List Row) (firsts : List Place) (last : List Row) (lasts : List Place) (one : List Row) (places : List Place) (other : List Row) (others : List Place) (n : ℕ)
+    → has_passed first firsts last lasts one places other others n ≡ false
+    → passed_line index due len first firsts last lasts one places other others n ≡ []
+not_passed index due len first firsts last lasts one places other others n none =
+    let left = left_of one (place_at places n) in
+    elim (cases_Bool (is_less one places other others n)) [
+      | inr f ↦ rw f refl
+      | inl t ↦ rw t (elim (cases_Bool (is_lone first firsts left && is_lone last lasts left)) [
+        | inr f ↦ rw f refl
+        | inl both ↦ absurd (false≢true (sym none ∙ rw both t))
+      ])
+    ]
 
 -- ---- the same lines, by what is kept of the screens
 

@@ -237,8 +237,10 @@ fn put_told<W: Write>(
 {
     gives_join::<W>();
     let mut lines = Lines::of(moment);
-    for at in 0..one.places.len() {
+    let mut at = less.next(0);
+    while at < one.places.len() {
         put_if_less(alloc, sign, &mut lines, one, at, other, less, writer)?;
+        at = less.next(at + 1);
     }
     Ok(())
 }
@@ -439,8 +441,10 @@ fn put_told_passed<W: Write>(
 {
     gives_join::<W>();
     let mut lines = Lines::of(moment);
-    for at in 0..one.places.len() {
+    let mut at = passed.next(0);
+    while at < one.places.len() {
         put_if_passed(alloc, &mut lines, ends, one, at, other, passed, writer)?;
+        at = passed.next(at + 1);
     }
     Ok(())
 }
@@ -495,6 +499,9 @@ pub(crate) fn none_passes(
         → passed_lines index due len first.now.rows.items first.now.places.items last lasts
         one.now.rows.items one.now.places.items other.now.rows.items other.now.places.items ≡ [] }
 {
+    if lag.is_none() {
+        return true;
+    }
     let alloc = *one.rows.allocator();
     let Ok(alone) = Alone::of(alloc, one, other, lag, len) else {
         return false;

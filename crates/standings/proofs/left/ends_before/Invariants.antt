@@ -1,10 +1,15 @@
-use Rattle.std.proofs.Common.{ℕ, ◌+◌, ◌<◌, ◌≤◌}
+use Rattle.std.proofs.Common.{ℕ, ◌+◌, ◌<◌, ◌≤◌, length}
 use Rattle.standings.specs.Kept.{room_in}
 use Rattle.standings.specs.Standing.{place_at}
 use Rattle.standings.proofs.left.ends_before.Given as goal
 
--- it does at those so far
-abbrev pub invariant-loop-place : goal.invariant-loop-place
-invariant-loop-place l =
-    (n : ℕ) → n < l.place-index → (place_at l.still.places.items n).above ≤ l.above
-    → (place_at l.still.places.items n).before + l.len ≤ room_in l.still.rows.items l.above l.before (place_at l.still.places.items n).above
+-- it does at those behind so many
+abbrev pub invariant-loop-at : goal.invariant-loop-at
+invariant-loop-at l = record {
+  within : l.at ≤ length l.still.places.items;
+  ends : (n : ℕ) → l.at ≤ n → n < length l.still.places.items → (place_at l.still.places.items n).above ≤ l.above
+      → (place_at l.still.places.items n).before + l.len ≤ room_in l.still.rows.items l.above l.before (place_at l.still.places.items n).above;
+}
+
+abbrev pub decreases-loop-at : goal.decreases-loop-at
+decreases-loop-at l = l.at

@@ -21,7 +21,7 @@ returns c =
     let fit : length alone.one.items ≤ 18446744073709551615 = omega (arith, alone.one.ok.0, alone.one.ok.1, alone.one.small) in
     record {
       none = λ pairs told n lt begins. none_left row surplus spent one.rows.items other.rows.items first.rows.items one.places.items other.places.items first.places.items alone.one.items alone.other.items 18446744073709551615 n lt
-          pairs c.in_ok-find_surplus.ensures.surplus off (c.is_spent.ensures.none (not-false c.is_spent.result told)) begins;
+          pairs c.in_ok-find_surplus.ensures.surplus off (λ left. c.is_spent.ensures.none (not-false c.is_spent.result told) (length left)) begins;
       some = λ pairs told.
           let k = c.is_spent.ensures.some (not-true c.is_spent.result told) in
           some_left row surplus spent one.rows.items other.rows.items first.rows.items one.places.items other.places.items first.places.items alone.one.items alone.other.items 18446744073709551615 k.0

@@ -1,9 +1,9 @@
-use Rattle.std.proofs.Common.{◌-◌, ◌*◌, ◌∙◌, ap, arith, refl}
+use Rattle.std.proofs.Common.{◌-◌, ◌*◌, ◌∙◌, ap, arith, get_or, refl}
 use Rattle.std.proofs.lemmas.List.{take_all}
 use Rattle.standings.specs.Less.{for_left}
 use Rattle.standings.specs.Standing.{count_left, left_of, place_at}
 use Rattle.standings.proofs.LeftLemmas.{front_fits}
-use Rattle.standings.proofs.SurplusLemmas.{take_more_off, take_spent_off}
+use Rattle.standings.proofs.SurplusLemmas.{none_still, take_more_off, take_spent_off}
 use Rattle.standings.proofs.less.take_off.Goals as goal
 use Rattle.standings.proofs.less.take_off.Goals.{in-Some, in_default}
 
@@ -16,13 +16,17 @@ loop-place-preserved c =
     let was = c.args.counts.now in
     let k = c.loop-place.place-index in
     record {
-      agree = c.len_some.ensures.agree;
-      left = λ left begins. elim c.match-len_some.branch [
+      agree = c.len_from.ensures.agree;
+      none = λ m lt. elim c.match-len_from.branch [
+        | in-Some w ↦ ap (λ l. get_or l m 0) w.counts-is ∙ none_still counts c.args.least w.in-Some.len w.saturating_sub.result m c.loop-place.invariant.none w.in-Some.ensures.more lt
+        | in_default w ↦ ap (λ l. get_or l m 0) w.counts-is ∙ c.loop-place.invariant.none m lt
+      ];
+      left = λ left begins. elim c.match-len_from.branch [
         | in-Some w ↦
             let here = w.in-Some.ensures.some in
             ap (λ l. for_left l left) w.counts-is
             ∙ take_more_off row counts was rows places c.args.each k w.in-Some.len w.saturating_sub.result left c.loop-place-test.true
-            (omega (arith, here.0, front_fits row (left_of rows (place_at places k)) here.1, c.requires, c.loop-place.auto.counts))
+            (omega (arith, here.0, front_fits row (left_of rows (place_at places k)) here.1, c.requires.many, c.loop-place.auto.counts))
             here.0 here.1 begins w.saturating_sub.ensures (c.loop-place.invariant.left left begins)
         | in_default w ↦
             ap (λ l. for_left l left) w.counts-is

@@ -6,13 +6,13 @@ use Rattle.standings.specs.Less.{for_left, is_last}
 use Rattle.standings.specs.Standing.{left_of, place_at, place_in}
 use Rattle.standings.specs.declared.place.Place.{Place}
 use Rattle.standings.proofs.LeftLemmas.{front_fits}
-use Rattle.standings.proofs.SurplusLemmas.{is_told, last_off, last_spent, none_told, not_told, told_more, told_same}
+use Rattle.standings.proofs.SurplusLemmas.{is_told, last_off, last_spent, none_long, none_still, none_told, not_told, told_more, told_same}
 use Rattle.standings.proofs.less.tell_last.Goals as goal
 
-pub returns-then-is_spent : goal.returns-then-is_spent
-returns-then-is_spent c = λ n lt.
+pub returns-then-least-row : goal.returns-then-least-row
+returns-then-least-row c = λ n lt.
     none_told c.args.row.now c.args.surplus.now c.args.still.now.rows.items c.args.still.now.places.items (get_or c.args.told.now n false) n lt
-    (c.is_spent.ensures.none c.if-is_spent.true)
+    (λ left. none_long c.args.row.now c.args.surplus.now c.least_len-least.result left c.if-least-row.true c.least_len-least.ensures.none)
 
 pub loop-at-preserved-in-Some : goal.loop-at-preserved-in-Some
 loop-at-preserved-in-Some c =
@@ -31,13 +31,14 @@ loop-at-preserved-in-Some c =
     let begins : starts_with nat_eq row (left_of rows (place_at places k)) ≡ true = ap (λ (p : Place). starts_with nat_eq row (left_of rows p)) place ∙ c.in-Some.ensures.some.1 in
     record {
       within = omega (arith, lt);
-      agree = c.len_some.ensures.agree;
+      agree = c.len_from.ensures.agree;
       left = λ left begins'. last_off row counts was rows places k next len (get_or counts len 0 - 1) left lt is_next
           (omega (arith, many, front_fits row (left_of rows (place_at places k)) begins, c.requires.surplus, c.loop-at.auto.surplus))
           many begins begins' refl (c.loop-at.invariant.left left begins');
       told = λ n lt'. told_more c.loop-at.told c.args.told.now (is_last row rows places was) k next n is_next (omega (arith, lt, c.requires.told, c.loop-at.auto.told))
           (is_told row counts was rows places k next len lt is_next many begins c.loop-at.invariant.left ∙ le-leb 1 (get_or counts len 0) c.in-Some.ensures.more)
           (c.loop-at.invariant.told n lt');
+      none = λ m. none_still counts c.least_len-least.result len (get_or counts len 0 - 1) m c.loop-at.invariant.none c.in-Some.ensures.more;
     }
 
 pub loop-at-preserved : goal.loop-at-preserved
@@ -57,10 +58,11 @@ loop-at-preserved c =
     ∙ c.in_default.ensures.none refl (ap (λ (p : Place). starts_with nat_eq row (left_of rows p)) (sym place) ∙ begins) in
     record {
       within = omega (arith, lt);
-      agree = c.len_some.ensures.agree;
+      agree = c.len_from.ensures.agree;
       left = λ left begins'. last_spent row counts was rows places k next left lt is_next spent begins' (c.loop-at.invariant.left left begins');
       told = λ n lt'. told_same c.loop-at.told c.args.told.now (is_last row rows places was) k next n is_next
           (not_told row counts was rows places k next lt is_next spent c.loop-at.invariant.left) (c.loop-at.invariant.told n lt');
+      none = c.loop-at.invariant.none;
     }
 
 pub returns : goal.returns

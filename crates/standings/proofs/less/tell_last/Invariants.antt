@@ -10,6 +10,7 @@ abbrev pub invariant-loop-at : goal.invariant-loop-at
 invariant-loop-at l = record {
   within : l.at ≤ length l.still.places.items;
   agree : Agree l.row (row_below l.rows l.agreed.above).characters l.agreed.count;
+  none : (k : ℕ) → k < l.least → slice_index_or l.surplus k 0 ≡ 0;
   left : (left : List ℕ) → starts_with nat_eq l.row left ≡ true
       → for_left l.surplus left ≡ for_left l.fn.surplus left - count_left l.rows (drop l.at l.still.places.items) left;
   told : (n : ℕ) → n < length l.still.places.items

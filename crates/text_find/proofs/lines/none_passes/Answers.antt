@@ -1,8 +1,18 @@
 use Rattle.std.proofs.Common.{◌∙◌, ap, sym}
 use Rattle.standings.specs.Standing.{standing}
 use Rattle.std.proofs.lemmas.Bool.{not-true}
-use Rattle.text_find.proofs.LineLemmas.{none_of_all, none_passed}
+use Rattle.text_find.specs.Lines.{passed_lines}
+use Rattle.text_find.proofs.LineLemmas.{none_of_all, none_passed, nothing_passed, places_kept}
 use Rattle.text_find.proofs.lines.none_passes.Goals as goal
+
+pub returns-then-is_none : goal.returns-then-is_none
+returns-then-is_none c = λ _ text here there many is is' lags index due len last lasts.
+    let first = c.args.first.now in
+    let one = c.args.one.now in
+    let other = c.args.other.now in
+    ap (passed_lines index due len first.rows.items first.places.items last lasts one.rows.items one.places.items other.rows.items) (places_kept text there other is')
+    ∙ nothing_passed text index due len first.rows.items first.places.items last lasts one.rows.items one.places.items other.rows.items
+    (c.is_none.ensures c.if-is_none.true one.rows.items other.rows.items lags) (places_kept text here one is)
 
 pub returns-then-kept : goal.returns-then-kept
 returns-then-kept c = λ h text here there many is is' lags index due len last lasts.
