@@ -4,3 +4,5 @@ pub mod RangeLemmas
 pub mod SameLemmas
 pub mod TextLemmas
 pub mod RunLemmas
+pub mod ChangedLemmas
+mod KeptLemmas

@@ -1,7 +1,7 @@
 -- Equal rows.
 use Rattle.std.proofs.Common.{◌≡◌, ℕ, zero, suc, ◌+◌, ◌*◌, ◌<◌, ◌≤◌, Bool, true, false, ◌&&◌, List, [], ◌∷◌, length, get_or, take, nat_eq, Decides, refl, ap, sym, ◌∙◌, arith, inl, inr}
 use Rattle.std.specs.Cmp.Lexicographic.{pointwise}
-use Rattle.std.proofs.lemmas.Bool.{and_parts, cases_lt, eqb-true, eq-eqb}
+use Rattle.std.proofs.lemmas.Bool.{and_parts, cases_Bool, cases_lt, eqb-true, eq-eqb, false≢true}
 use Rattle.std.proofs.lemmas.List.{get_or-take}
 use Rattle.std.proofs.lemmas.List.FromFn.{fill_by_all}
 use Rattle.std.proofs.lemmas.Slice.Eq.{slice_eq-Decides}
@@ -173,3 +173,26 @@ narrow_same one other sound sound' =
     same_truth (pointwise same_cell (take 80 one.cells) (take 80 other.cells)) (pointwise same_cell one.cells other.cells)
     (λ h. whole.1 (same_whole one other sound sound' (front.0 h)))
     (λ h. front.1 (ap (take 80) (whole.0 h)))
+
+-- ---- rows that begin differently
+
+-- lists that are the same begin so
+fronts_same : {A B : Type 0} (E : A → B → Bool) (n : ℕ) (xs : List A) (ys : List B) → pointwise E xs ys ≡ true
+    → pointwise E (take n xs) (take n ys) ≡ true
+fronts_same E zero xs ys same = refl
+fronts_same E (suc n) [] [] same = refl
+fronts_same E (suc n) [] (y ∷ ys) same = same
+fronts_same E (suc n) (x ∷ xs) [] same = same
+fronts_same E (suc n) (x ∷ xs) (y ∷ ys) same =
+    let parts = and_parts (E x y) (pointwise E xs ys) same in
+    rw parts.0 (fronts_same E n xs ys parts.1)
+
+-- so rows that begin differently aren't the same
+pub fronts_apart : (n : ℕ) (one other : Row) (front : Bool) → front ≡ pointwise same_cell (take n one.cells) (take n other.cells)
+    → front ≡ false → front ≡ same_row one other
+fronts_apart n one other front is apart = elim (cases_Bool (same_row one other)) [
+  | inl t ↦
+      let cells = (and_parts (nat_eq (size_number one.size) (size_number other.size)) (pointwise same_cell one.cells other.cells) t).1 in
+      absurd (false≢true (sym apart ∙ is ∙ fronts_same same_cell n one.cells other.cells cells))
+  | inr f ↦ apart ∙ sym f
+]

@@ -6,3 +6,5 @@ pub mod SameRows
 pub mod Outlines
 pub mod Runs
 pub mod Plain
+pub mod KeptRows
+pub mod View

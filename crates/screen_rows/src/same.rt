@@ -12,6 +12,9 @@ const NARROW: usize = NARROW_COLUMNS as usize;
 
 const WIDE: usize = WIDE_COLUMNS as usize;
 
+/// How many cells tell most rows apart.
+const FIRST_CELLS: usize = 16;
+
 /// Whether two rows have the same size and the same cells. Rows of narrow screens are blank right of
 /// column 80, and aren't compared there.
 pub fn same_row(one: &Row, other: &Row, narrow: bool) -> bool
@@ -19,6 +22,14 @@ pub fn same_row(one: &Row, other: &Row, narrow: bool) -> bool
     ensures { result ≡ same_row one.now other.now }
 {
     one.size == other.size && same_cells(one, other, narrow)
+}
+
+/// The same of rows most of which differ: their first cells are compared first.
+pub fn same_by_front(one: &Row, other: &Row, narrow: bool) -> bool
+    requires { narrow ≡ true → SoundRow false one.now × SoundRow false other.now }
+    ensures { result ≡ same_row one.now other.now }
+{
+    same_first::<FIRST_CELLS>(&one.cells, &other.cells) && same_row(one, other, narrow)
 }
 
 /// Whether two rows have the same cells.

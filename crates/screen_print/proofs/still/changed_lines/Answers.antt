@@ -1,5 +1,5 @@
 use Rattle.std.proofs.Common.{◌≡◌, ◌-◌, sym, arith, append-nil, ◌∙◌}
-use Rattle.screen_print.proofs.RowLemmas.{all_changed, changed_step}
+use Rattle.screen_rows.proofs.ChangedLemmas.{all_changed, changed_step}
 use Rattle.screen_print.proofs.still.changed_lines.Goals as goal
 use Rattle.screen_print.proofs.still.changed_lines.Goals.{then-is_changed, else-is_changed}
 

@@ -1,7 +1,7 @@
 use Rattle.std.proofs.Common.{◌≡◌, ◌-◌, ap, sym, arith, append-nil, ◌∙◌}
 use Rattle.vt_screen.specs.Picture.{Picture}
 use Rattle.screen_rows.specs.SameRows.{changed_lines}
-use Rattle.screen_print.proofs.RowLemmas.{all_changed, changed_step}
+use Rattle.screen_rows.proofs.ChangedLemmas.{all_changed, changed_step}
 use Rattle.screen_print.proofs.still.Still.lines_unlike.Goals as goal
 use Rattle.screen_print.proofs.still.Still.lines_unlike.Goals.{then-is_unlike, else-is_unlike}
 
