@@ -1,3 +1,4 @@
+mod NumberLemmas
 pub mod PageLemmas
 mod ReadBack
 pub mod ReadLemmas

@@ -1,11 +1,10 @@
--- Rows that begin differently, and characters as they stand in a string.
-use Rattle.std.proofs.Common.{◌≡◌, ℕ, zero, suc, ◌<◌, ◌≤◌, Bool, true, false, List, [], ◌∷◌, ◌++◌, All, ◌&&◌, length, drop, take, get_or, nat_eq, ◌≢◌, subst, encode_utf8, refl, ap, sym, ◌∙◌, arith, append-nil, inl, inr}
-use Rattle.std.specs.Cmp.Lexicographic.{pointwise}
+-- Characters as they stand in a string.
+use Rattle.std.proofs.Common.{◌≡◌, ℕ, ◌<◌, ◌≤◌, true, List, [], ◌∷◌, ◌++◌, All, length, drop, take, get_or, encode_utf8, refl, ap, sym, ◌∙◌, arith, append-nil, inl, inr}
 use Rattle.std.specs.List.{AllPass, flat_map, list_all}
-use Rattle.std.proofs.lemmas.Bool.{cases_Bool, cases_lt}
+use Rattle.std.proofs.lemmas.Bool.{cases_lt}
 use Rattle.std.proofs.lemmas.Bool.Decides.{nat_tests}
 use Rattle.std.proofs.lemmas.List.{drop-map, get_or_default, take-map}
-use Rattle.std.proofs.lemmas.List.Elements.{All-drop, All-head, All-tail, All-take}
+use Rattle.std.proofs.lemmas.List.Elements.{All-head, All-tail}
 use Rattle.std.proofs.lemmas.List.Concat.{flat_map-append}
 use Rattle.std.proofs.lemmas.List.Sums.{AllPass-from_list_all}
 use Rattle.std.proofs.lemmas.Str.{encode_ascii, inside_one}
@@ -13,48 +12,10 @@ use Rattle.vt_screen.specs.declared.cell.Cell.{Cell}
 use Rattle.vt_screen.specs.declared.cell.Row.{Row}
 use Rattle.screen_rows.specs.Glyphs.{character}
 use Rattle.screen_rows.specs.RowText.{printed}
-use Rattle.screen_rows.specs.SameRows.{same_cell, same_row}
-use Rattle.screen_rows.proofs.SameLemmas.{same_row_decides}
-use Rattle.screen_page.specs.Parts.{four_from}
 use Rattle.screen_rows.specs.declared.runs.Run.{Run}
 use Rattle.screen_rows.specs.Runs.{cells_of}
 use Rattle.screen_page.specs.EntryText.{string_byte}
 use Rattle.screen_rows.specs.Plain.{glyphs_of, is_plain}
-
--- ---- rows
-
-parts_true : (s t : Bool) → (s && t) ≡ true → (s ≡ true) × (t ≡ true)
-parts_true true t h = (refl, h)
-parts_true false t h = grind (arith, nat_tests)
-
--- lists that are the same begin so
-fronts_same : {A B : Type 0} (E : A → B → Bool) (n : ℕ) (xs : List A) (ys : List B) → pointwise E xs ys ≡ true
-    → pointwise E (take n xs) (take n ys) ≡ true
-fronts_same E zero xs ys same = refl
-fronts_same E (suc n) [] [] same = refl
-fronts_same E (suc n) [] (y ∷ ys) same = same
-fronts_same E (suc n) (x ∷ xs) [] same = same
-fronts_same E (suc n) (x ∷ xs) (y ∷ ys) same =
-    let parts = parts_true (E x y) (pointwise E xs ys) same in
-    rw parts.0 (fronts_same E n xs ys parts.1)
-
--- so rows that begin differently aren't the same
-pub fronts_apart : (n : ℕ) (one other : Row) (front : Bool) → front ≡ pointwise same_cell (take n one.cells) (take n other.cells)
-    → front ≡ false → front ≡ same_row one other
-fronts_apart n one other front is apart = elim (cases_Bool (same_row one other)) [
-  | inl t ↦
-      let cells = (parts_true _ (pointwise same_cell one.cells other.cells) t).1 in
-      absurd (grind (arith, nat_tests, fronts_same same_cell n one.cells other.cells cells, is, apart))
-  | inr f ↦ apart ∙ sym f
-]
-
--- rows of which four cells come to other numbers aren't either
-pub fours_apart : (one other : Row) (place these those : ℕ) → these ≡ four_from one.cells place → those ≡ four_from other.cells place
-    → these ≢ those → nat_eq these those ≡ same_row one other
-fours_apart one other place these those is are apart = elim (cases_Bool (same_row one other)) [
-  | inl t ↦ absurd (apart (is ∙ ap (λ (row : Row). four_from row.cells place) ((same_row_decides one other).0 t) ∙ sym are))
-  | inr f ↦ grind (arith, nat_tests, apart) ∙ sym f
-]
 
 -- ---- strings
 

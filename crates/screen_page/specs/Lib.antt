@@ -1,5 +1,7 @@
 pub mod Entries
 pub mod EntryText
+pub mod Numbered
+pub mod NumberedView
 pub mod Folded
 pub mod Law
 pub mod Page

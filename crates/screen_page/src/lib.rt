@@ -3,6 +3,7 @@
 
 mod entry_printer;
 pub mod laws;
+mod numbered;
 mod page_file;
 mod player;
 mod rows;

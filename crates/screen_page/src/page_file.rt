@@ -1,22 +1,24 @@
 //! The page of a recording.
 
-ghost use Rattle.std.specs.Prelude.{◌≡◌, ◌≢◌, ◌≤◌, length, true, false, Err, OnOk, IfErr};
+ghost use Rattle.std.specs.Prelude.{◌≡◌, ◌≢◌, ◌≤◌, length, true, false, Err, IfErr, IsOk, OnErr, OnOk};
 ghost use Rattle.tape_core.specs.Devices.{Gave, Took, has_failed, is_flushed};
 ghost use Rattle.tape_seek.specs.State.{KeepsHistory};
-ghost use Rattle.chunk_walk.specs.Stops.{OnlySeeks};
+ghost use Rattle.chunk_walk.specs.Stops.{OnlySeeks, StopsSound};
 ghost use Rattle.screen_print.specs.Stops.{StopsWalk};
+ghost use Rattle.screen_print.specs.Walk.{whole_text};
 ghost use Rattle.screen_page.specs.Page.{front, head, middle, page_text, rest, tail};
-ghost use Rattle.screen_page.specs.Parts.{closing, first_text, opening};
+ghost use Rattle.screen_page.specs.Parts.{chunk_text, closing, first_text, opening};
 
 use crate::entry_printer::EntryPrinter;
 use crate::player::{HEAD, MIDDLE, REST, TAIL};
 use crate::title::put_title;
 use chunk_walk::laws::walks_end_sound;
-use screen_print::{ChangesFault, put_all_chunks};
+use chunk_walk::visit_all_chunks;
+use screen_print::ChangesFault;
 use std::io::Write;
 use tape_core::Watched;
 use tape_core::laws::gives_join;
-use tape_seek::Session;
+use tape_seek::{OutOfMemory, Session};
 
 /// Writes the session's recording as one HTML file of this title that plays it, and flushes. It works by seeks. After a
 /// fault a beginning of the file has gone out. The recording and the log stay, and the frontier isn't lowered.
@@ -40,10 +42,24 @@ pub fn page<W: Write>(
     gives_join::<W>();
     walks_end_sound::<W>();
     put_opening(title, writer);
-    put_all_chunks(session, &EntryPrinter, writer)?;
+    put_entries(session, writer)?;
     put_closing(writer);
     writer.settle()?;
     Ok(())
+}
+
+/// Writes the chunks' entries, as long as the writer doesn't fail.
+#[tactic(auto, using(chunk_walk::proofs::SeekLemmas::seeks_keep_history), unfolding(chunk_walk::specs::Walk::all_texts, screen_print::specs::Walk::whole_text))]
+fn put_entries<W: Write>(session: &mut Session, writer: &mut Watched<W>) -> Result<(), OutOfMemory>
+    ensures gave { OnOk result (Gave W.contents writer.old writer.new
+        (whole_text chunk_text session.old.profile session.old.recording)) }
+    ensures refused { OnErr result (StopsSound W.contents writer.old writer.new
+        (whole_text chunk_text session.old.profile session.old.recording)) }
+    ensures stays { OnlySeeks session.old session.new }
+    ensures history { KeepsHistory session.old session.new }
+    ensures room { length session.old.recording.chunks ≤ session.old.marks.frontier → IsOk result }
+{
+    visit_all_chunks(session, &EntryPrinter, writer)
 }
 
 /// Writes what stands before the chunks' entries.

@@ -1,132 +1,95 @@
 //! What a line is after a chunk: what another line was before it, or a row.
 
-ghost use Rattle.std.specs.Prelude.{◌≡◌, ◌+◌, ◌<◌, ◌≤◌, ◌∷◌, encode_utf8, length, false, true};
+ghost use Rattle.std.specs.Prelude.{◌≡◌, ◌≤◌, ◌<◌, [], ◌∷◌, ◌++◌, encode_utf8, length, true};
 ghost use Rattle.std.specs.List.{flat_map};
 ghost use Rattle.held.specs.Held.{Wrote};
-ghost use Rattle.vt_screen.specs.Cells.{row_at};
-ghost use Rattle.vt_screen.specs.Picture.{SoundRow};
 ghost use Rattle.screen_rows.specs.Plain.{glyphs_of};
 ghost use Rattle.screen_rows.specs.RowText.{printed};
-ghost use Rattle.screen_rows.specs.SameRows.{same_row, size_number};
+ghost use Rattle.screen_rows.specs.KeptRows.{IsFrom};
+ghost use Rattle.screen_rows.specs.SameRows.{size_number};
 ghost use Rattle.screen_rows.specs.Runs.{IsRun, cells_of};
-ghost use Rattle.screen_page.specs.Entries.{line_of, shown, shown_run};
+ghost use Rattle.screen_page.specs.Entries.{shown, shown_run};
 ghost use Rattle.screen_page.specs.EntryText.{comma_number, row_text, run_text, string_byte};
-ghost use Rattle.screen_page.specs.Parts.{four_from, line_text, two_from};
+ghost use Rattle.screen_page.specs.Parts.{line_text};
 
+use crate::numbered::NumberedRows;
 use arrayvec::ArrayVec;
 use held::{HELD, put, put_byte, put_number};
-use screen_print::Still;
 use screen_rows::{
     CELLS, Run, are_plain, cells_of, character, glyphs_of, glyphs_of_run, inked, run_at,
-    same_first, same_row,
 };
 use std::io::Write;
 use tape_core::Watched;
-use vt_screen::laws::screens_are_sound;
 use vt_screen::limits::{LINES, WIDE_COLUMNS};
 use vt_screen::{Cell, Row, Screen, Size};
 
-/// How many cells tell most rows apart.
-const FIRST_CELLS: usize = 16;
-
-/// The last place at which four cells are looked at, and how far each is from the one before it.
-const LAST_PLACE: usize = 72;
-
-const PLACES_APART: usize = 8;
-
-/// What four blank cells come to.
-const FOUR_BLANK: u64 = 0x0020_0020_0020_0020;
-
-/// Writes what a line is that a chunk changes.
+/// Writes what a line is that a chunk changes, of which the line is known that had its row in its slot, or 0.
 pub(crate) fn put_line<W: Write>(
-    before: &Still,
+    before: &NumberedRows,
     screen: &Screen,
     line: u8,
+    source: u8,
     held: &mut ArrayVec<u8, HELD>,
     writer: &mut Watched<W>,
 )
     requires low { 1 ≤ line }
     requires high { line ≤ LINES }
+    requires source { IsFrom before.now screen.now line source }
     ensures { Wrote W.contents writer.old held.old.items writer.new held.new.items
         (line_text before.now.rows screen.now.picture.rows line) }
 {
+    match before.line_of(screen, line, source) {
+        Some(other) => put_moved(line, other, held, writer),
+        None => put_changed(line, screen.row(line), held, writer),
+    }
+}
+
+/// Writes a line, and the line that was its row. Most numbers have two digits.
+fn put_moved<W: Write>(line: u8, other: u8, held: &mut ArrayVec<u8, HELD>, writer: &mut Watched<W>)
+    ensures { Wrote W.contents writer.old held.old.items writer.new held.new.items
+        (comma_number line ++ comma_number other) }
+{
+    if have_two_digits(line, other) {
+        let (tens, ones) = (b'0' + line / 10, b'0' + line % 10);
+        let (other_tens, other_ones) = (b'0' + other / 10, b'0' + other % 10);
+        put(
+            &[b',', tens, ones, b',', other_tens, other_ones],
+            held,
+            writer,
+        );
+    } else {
+        put_comma_number(usize::from(line), held, writer);
+        put_comma_number(usize::from(other), held, writer);
+    }
+}
+
+/// Whether two numbers have two digits.
+fn have_two_digits(one: u8, other: u8) -> bool
+    ensures low { result ≡ true → 10 ≤ one }
+    ensures high { result ≡ true → one < 100 }
+    ensures other_low { result ≡ true → 10 ≤ other }
+    ensures other_high { result ≡ true → other < 100 }
+{
+    10 <= one && one < 100 && 10 <= other && other < 100
+}
+
+/// Writes a line and its row.
+fn put_changed<W: Write>(
+    line: u8,
+    row: &Row,
+    held: &mut ArrayVec<u8, HELD>,
+    writer: &mut Watched<W>,
+)
+    requires whole { length row.now.cells ≡ WIDE_COLUMNS }
+    ensures { Wrote W.contents writer.old held.old.items writer.new held.new.items
+        (comma_number line ++ 44 ∷ row_text (shown row.now)) }
+{
     put_comma_number(usize::from(line), held, writer);
-    match line_of(before, screen, line) {
-        Some(other) => put_comma_number(usize::from(other), held, writer),
-        None => put_row(screen.row(line), held, writer),
-    }
+    put_row(row, held, writer);
 }
 
-/// The first line that was what a line of the screen is.
-fn line_of(before: &Still, screen: &Screen, line: u8) -> Option<u8>
-    requires low { 1 ≤ line }
-    requires high { line ≤ LINES }
-    ensures { result ≡ line_of before.now.rows (row_at screen.now.picture.rows line) }
-{
-    before.sound();
-    screens_are_sound(screen);
-    let narrow = !(before.is_wide() || screen.is_wide());
-    let row = screen.row(line);
-    let place = telling_place(&row.cells);
-    let four = four_from(&row.cells, place);
-    for other in 1..LINES + 1 {
-        if is_same(before.row(other), row, place, four, narrow) {
-            return Some(other);
-        }
-    }
-    None
-}
-
-/// Whether two rows are the same, of which most aren't: four of their cells, known of the second one, are compared first.
-fn is_same(one: &Row, other: &Row, place: usize, four: u64, narrow: bool) -> bool
-    requires within { place + 4 ≤ WIDE_COLUMNS }
-    requires four { four ≡ four_from other.now.cells place }
-    requires sound { narrow ≡ true → SoundRow false one.now × SoundRow false other.now }
-    ensures { result ≡ same_row one.now other.now }
-{
-    four_from(&one.cells, place) == four && is_same_row(one, other, narrow)
-}
-
-/// Whether two rows are the same. Their first cells are compared first. It stands apart, so that the search is short.
-#[inline(never)]
-fn is_same_row(one: &Row, other: &Row, narrow: bool) -> bool
-    requires { narrow ≡ true → SoundRow false one.now × SoundRow false other.now }
-    ensures { result ≡ same_row one.now other.now }
-{
-    same_first::<FIRST_CELLS>(&one.cells, &other.cells) && same_row(one, other, narrow)
-}
-
-/// The last of some places at which four cells aren't blank, which tell a row from most others; or the first place.
-fn telling_place(cells: &[Cell; CELLS]) -> usize
-    ensures { result ≤ LAST_PLACE }
-{
-    let mut place = LAST_PLACE;
-    while place >= PLACES_APART && four_from(cells, place) == FOUR_BLANK {
-        place -= PLACES_APART;
-    }
-    place
-}
-
-/// The numbers of four cells as one. They stand side by side in memory, so that they are read at once.
-fn four_from(cells: &[Cell; CELLS], at: usize) -> u64
-    requires { at + 4 ≤ WIDE_COLUMNS }
-    ensures { result ≡ four_from cells.now at }
-{
-    let low = two_from(cells, at);
-    let high = two_from(cells, at + 2);
-    low + 4_294_967_296 * high
-}
-
-/// The numbers of two.
-fn two_from(cells: &[Cell; CELLS], at: usize) -> u64
-    requires { at + 2 ≤ WIDE_COLUMNS }
-    ensures value { result ≡ two_from cells.now at }
-    ensures within { result < 4294967296 }
-{
-    u64::from(cells[at].number()) + 65_536 * u64::from(cells[at + 1].number())
-}
-
-/// Writes a comma and a number.
+/// Writes a comma and a number. Most have one or two digits.
+#[tactic(auto, using(std::proofs::lemmas::Fmt::decimal_digit, itoa::proofs::Decimal::decimal_two))]
 pub(crate) fn put_comma_number<W: Write>(
     number: usize,
     held: &mut ArrayVec<u8, HELD>,
@@ -135,8 +98,19 @@ pub(crate) fn put_comma_number<W: Write>(
     ensures { Wrote W.contents writer.old held.old.items writer.new held.new.items
         (comma_number number) }
 {
-    put_byte(b',', held, writer);
-    put_number(number, held, writer);
+    if number < 10 {
+        put(&[b',', b'0' + number as u8], held, writer);
+    } else if number < 100 {
+        let number = number as u8;
+        put(
+            &[b',', b'0' + number / 10, b'0' + number % 10],
+            held,
+            writer,
+        );
+    } else {
+        put_byte(b',', held, writer);
+        put_number(number, held, writer);
+    }
 }
 
 /// Writes a row behind a comma.
@@ -193,10 +167,22 @@ fn put_run<W: Write>(
     ensures { Wrote W.contents writer.old held.old.items writer.new held.new.items
         (run_text (shown_run row.now run)) }
 {
-    put_comma_number(usize::from(run.kind.number()), held, writer);
-    put(b",\"", held, writer);
+    put_kind(run.kind.number(), held, writer);
     put_text(row, glyphs, run, held, writer);
     put_byte(b'"', held, writer);
+}
+
+/// Writes the number of a kind, and what stands between it and the characters of a run. Most have one digit.
+fn put_kind<W: Write>(kind: u8, held: &mut ArrayVec<u8, HELD>, writer: &mut Watched<W>)
+    ensures { Wrote W.contents writer.old held.old.items writer.new held.new.items
+        (comma_number kind ++ 44 ∷ 34 ∷ []) }
+{
+    if kind < 10 {
+        put(&[b',', b'0' + kind, b',', b'"'], held, writer);
+    } else {
+        put_comma_number(usize::from(kind), held, writer);
+        put(b",\"", held, writer);
+    }
 }
 
 /// Writes the characters of a run as they stand in a string: at once where each stands for itself.

@@ -1,10 +1,9 @@
-use Rattle.std.proofs.Common.{◌≡◌, ◌+◌, ◌≤◌, ◌∷◌, ◌++◌, [], ◌∙◌, List, ℕ, append-nil, ap, length, subst, sym, arith}
+use Rattle.std.proofs.Common.{◌≡◌, ◌∷◌, ◌++◌, [], ◌∙◌, List, ℕ, append-nil, ap, length, subst, sym, arith}
 use Rattle.std.specs.List.{flat_map}
 use Rattle.std.proofs.lemmas.List.Concat.{flat_map-append}
 use Rattle.held.specs.Held.{Wrote}
-use Rattle.held.proofs.HeldLemmas.{wrote_both, wrote_none}
+use Rattle.held.proofs.HeldLemmas.{wrote_both}
 use Rattle.screen_rows.specs.declared.runs.Run.{Run}
-use Rattle.screen_rows.specs.Ink.{inked}
 use Rattle.screen_rows.specs.Runs.{run_at, runs_of}
 use Rattle.screen_rows.proofs.RunLemmas.{first_runs, next_begins, run_added, run_high}
 use Rattle.screen_page.specs.Entries.{shown_run}
