@@ -1,6 +1,6 @@
 //! Rows that are kept of a sheet, to tell which of them another one changes.
 
-ghost use Rattle.std.specs.Prelude.{◌≡◌, ◌≢◌, ◌+◌, ◌-◌, ◌<◌, ◌≤◌, ℕ, IfOk, List, filter, length, not};
+ghost use Rattle.std.specs.Prelude.{◌≡◌, ◌≢◌, ◌+◌, ◌-◌, ◌<◌, ◌≤◌, ℕ, IfOk, IfSome, List, false, filter, is_none, length, not, true};
 ghost use Rattle.std.specs.List.{range_with_len};
 ghost use Rattle.sheet.specs.Cells.{Cell};
 ghost use Rattle.sheet.specs.Grid.{IsUsed, row_at};
@@ -10,7 +10,7 @@ ghost use Rattle.xterm_print.specs.Kept.{FollowAll, FollowLines, Follows};
 ghost use Rattle.xterm_print.specs.Same.{Agree};
 
 use crate::moved::{catch_up_moved, moved_up};
-use crate::same::{TOGETHER, same_up_to};
+use crate::same::{TOGETHER, place_from, same_cell, same_up_to};
 use arrayvec::ArrayVec;
 use sheet::Cell;
 use sheet::limits::MOST_LINES;
@@ -28,11 +28,13 @@ pub struct KeptRows {
     pub changed: ArrayVec<u16, ROWS>,
 }
 
-/// A copy of the cells of a row. Behind so many all are blank.
+/// A copy of the cells of a row. Behind so many all are blank; at a place it was seen to differ from the row that it came
+/// up over, and mostly does so still.
 #[derive(Drop)]
 pub struct KeptRow {
     cells: Vec<Cell>,
     used: usize,
+    pub(crate) apart: usize,
 }
 
 impl Model for KeptRow {
@@ -68,7 +70,8 @@ impl KeptRow {
         ensures { IfOk result (λ row. row ≡ cells.now) }
     {
         let cells = cells.to_vec(alloc)?;
-        Ok(KeptRow { cells, used })
+        let apart = 0;
+        Ok(KeptRow { cells, used, apart })
     }
 
     /// Whether it has the same cells as these, behind so many of which all are blank.
@@ -76,18 +79,43 @@ impl KeptRow {
         requires { IsUsed cells.now used }
         ensures { result ≡ same_row self.now cells.now }
     {
-        if self.cells.len() != cells.len() {
-            return false;
-        }
-        let compared = end_of(self.used.max(used), cells.len());
-        same_up_to(self.cells.as_slice(), cells, compared) == compared
+        self.place_apart(cells, used).is_none()
     }
 
-    /// Whether it has the same cells as another one.
-    pub(crate) fn is_same_row(&self, other: &KeptRow) -> bool
-        ensures { result ≡ same_row self.now other.now }
+    /// A place where its cells differ from these, behind so many of which all are blank, if there is one.
+    fn place_apart(&self, cells: &[Cell], used: usize) -> Option<usize>
+        requires { IsUsed cells.now used }
+        ensures same { is_none result ≡ same_row self.now cells.now }
+        ensures equal { is_none result ≡ true → self.now ≡ cells.now }
+        ensures agree { IfSome result (λ at. Agree self.now cells.now 0 at) }
+        ensures within { IfSome result (λ at. at ≤ length cells.now) }
     {
-        self.is_same(other.cells.as_slice(), other.used)
+        if self.cells.len() != cells.len() {
+            return Some(0);
+        }
+        let end = end_of(self.used.max(used), cells.len());
+        let at = same_up_to(self.cells.as_slice(), cells, end);
+        if at == end {
+            return None;
+        }
+        Some(place_from(self.cells.as_slice(), cells, at, end))
+    }
+
+    /// A place where its cells differ from those of another row, if there is one.
+    pub(crate) fn place_apart_from(&self, other: &KeptRow) -> Option<usize>
+        ensures { is_none result ≡ same_row self.now other.now }
+    {
+        self.place_apart(other.cells.as_slice(), other.used)
+    }
+
+    /// Whether its cells differ from those of another row at a place.
+    pub(crate) fn differs_at(&self, other: &KeptRow, at: usize) -> bool
+        ensures { result ≡ true → same_row self.now other.now ≡ false }
+    {
+        if self.cells.len() != other.cells.len() || self.cells.len() <= at {
+            return false;
+        }
+        !same_cell(self.cells[at], other.cells[at])
     }
 
     /// Becomes the same as these cells, behind so many of which all are blank, and tells whether it wasn't.
@@ -97,16 +125,14 @@ impl KeptRow {
         ensures caught { length self.old ≡ length cells.now
             → Follows (length cells.now) self.new cells.now }
     {
-        if self.cells.len() != cells.len() {
-            return true;
-        }
-        let end = end_of(self.used.max(used), cells.len());
-        let from = same_up_to(self.cells.as_slice(), cells, end);
-        if from == end {
+        let Some(from) = self.place_apart(cells, used) else {
             return false;
+        };
+        if self.cells.len() == cells.len() {
+            let end = end_of(self.used.max(used), cells.len()).max(from);
+            copy_between(self.cells.as_mut_slice(), cells, from, end);
+            self.used = used;
         }
-        copy_between(self.cells.as_mut_slice(), cells, from, end);
-        self.used = used;
         true
     }
 }

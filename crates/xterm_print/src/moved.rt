@@ -46,26 +46,50 @@ fn moved_end(screen: &Screen, line: u16, shift: u16) -> u16
 }
 
 /// Adds those of some lines whose rows differ from the ones so many lines further down.
-fn push_moved(rows: &[KeptRow], from: u16, to: u16, shift: u16, changed: &mut ArrayVec<u16, ROWS>)
+fn push_moved(
+    rows: &mut [KeptRow],
+    from: u16,
+    to: u16,
+    shift: u16,
+    changed: &mut ArrayVec<u16, ROWS>,
+)
     requires low { 1 ≤ from }
     requires apart { from ≤ to }
-    requires high { to + shift ≤ length rows.now + 1 }
-    requires most { length rows.now ≤ ROWS }
+    requires high { to + shift ≤ length rows.old + 1 }
+    requires most { length rows.old ≤ ROWS }
     requires few { length changed.old.items + 1 ≤ from }
+    ensures stay { rows.new ≡ rows.old }
     ensures few { length changed.new.items + 1 ≤ to }
     ensures changed { (p : ℕ → Bool) → ((k : ℕ) → from ≤ k → k < to → p k
-        ≡ not (same_row (row_at rows.now k) (row_at rows.now (k + shift))))
+        ≡ not (same_row (row_at rows.old k) (row_at rows.old (k + shift))))
         → changed.old.items ≡ filter p (range_with_len 1 (from - 1))
         → changed.new.items ≡ filter p (range_with_len 1 (to - 1)) }
 {
     for line in from..to {
         let place = line as usize - 1;
-        let other = place + shift as usize;
-        let (row, moved) = (&rows[place], &rows[other]);
-        if !row.is_same_row(moved) {
+        if differ(rows, place, place + shift as usize) {
             changed.push(line);
         }
     }
+}
+
+/// Whether the rows at two places differ. Where the first one did when it was compared last is looked at first.
+fn differ(rows: &mut [KeptRow], place: usize, other: usize) -> bool
+    requires place { place < length rows.old }
+    requires other { other < length rows.old }
+    ensures stay { rows.new ≡ rows.old }
+    ensures differ { result ≡ not (same_row (row_at rows.old (place + 1)) (row_at rows.old (other + 1))) }
+{
+    let (row, moved) = (&rows[place], &rows[other]);
+    if row.differs_at(moved, row.apart) {
+        return true;
+    }
+    let Some(apart) = row.place_apart_from(moved) else {
+        return false;
+    };
+    let row = &mut rows[place];
+    row.apart = apart;
+    true
 }
 
 /// Adds those of some lines whose rows differ from the ones that are shown.

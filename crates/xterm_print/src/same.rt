@@ -10,7 +10,7 @@ use sheet::Cell;
 pub(crate) const TOGETHER: usize = 8;
 
 /// Whether two cells are the same.
-fn same_cell(one: Cell, other: Cell) -> bool
+pub(crate) fn same_cell(one: Cell, other: Cell) -> bool
     ensures same { result ≡ same_cell one other }
     ensures equal { IsTrue result → one ≡ other }
 {
@@ -32,7 +32,7 @@ fn agree_together(one: &[Cell], other: &[Cell], from: usize) -> bool
 }
 
 /// A place from another one on, up to which all cells are the same; where it lies before the end, some differ.
-fn place_from(one: &[Cell], other: &[Cell], from: usize, end: usize) -> usize
+pub(crate) fn place_from(one: &[Cell], other: &[Cell], from: usize, end: usize) -> usize
     requires long { length one.now ≡ length other.now }
     requires apart { from ≤ end }
     requires within { end ≤ length one.now }

@@ -1,8 +1,8 @@
-use Rattle.std.proofs.Common.{◌≡◌, ◌+◌, ◌-◌, ◌≤◌, ◌∙◌, List, ap, arith, inl, inr, length, subst, sym}
+use Rattle.std.proofs.Common.{◌≡◌, ◌+◌, ◌-◌, ◌≤◌, ◌∙◌, List, ap, arith, inl, inr, length, not, subst, sym}
 use Rattle.std.proofs.lemmas.Bool.{cases_lt}
 use Rattle.sheet.specs.Cells.{Cell}
 use Rattle.sheet.specs.Grid.{row_at}
-use Rattle.xterm_print.specs.ChangeLines.{is_changed}
+use Rattle.xterm_print.specs.ChangeLines.{is_changed, same_row}
 use Rattle.xterm_print.specs.Kept.{Follows}
 use Rattle.xterm_print.proofs.KeptLemmas.{some_differ}
 use Rattle.xterm_print.proofs.TurnedLemmas.{moved_changed, other_changed, row_moved}
@@ -11,9 +11,11 @@ use Rattle.xterm_print.proofs.moved.catch_up_moved.Goals as goal
 pub returns-clause-before : goal.returns-clause-before
 returns-clause-before c = λ k here below.
     c.catch_up_lines.ensures.before k here (omega (arith, below, c.moved_end-end.ensures.some)) ∙ c.move_rows.ensures.before k here below
+    ∙ ap (λ l. row_at l k) c.push_moved.ensures.stay
 
 pub returns-clause-behind : goal.returns-clause-behind
 returns-clause-behind c = λ k above. c.catch_up_lines.ensures.behind k above ∙ c.move_rows.ensures.behind k above
+    ∙ ap (λ l. row_at l k) c.push_moved.ensures.stay
 
 pub returns-clause-changed : goal.returns-clause-changed
 returns-clause-changed c = λ before marked follow so_far.
@@ -25,7 +27,8 @@ returns-clause-changed c = λ before marked follow so_far.
     let end = c.moved_end-end.result in
     let shift = c.args.shift in
     let p = is_changed before after in
-    c.push_renewed.ensures.changed p (λ k low high. other_changed before after origins told kept columns k (follow k (omega (arith, low, c.moved_end-end.ensures.some)) high))
+    c.push_renewed.ensures.changed p (λ k low high. other_changed before after origins told kept columns k (follow k (omega (arith, low, c.moved_end-end.ensures.some)) high)
+    ∙ ap (λ l. not (same_row (row_at l k) (row_at after k))) (sym c.push_moved.ensures.stay))
     (c.push_moved.ensures.changed p
     (λ k low high. moved_changed before after origins told kept columns k (follow k low (omega (arith, high))) shift (omega (arith, low, c.requires.low)) (c.moved_end-end.ensures.moved k low high)
     (follow (k + shift) (omega (arith, low)) (omega (arith, high))))
@@ -43,12 +46,13 @@ returns-clause-caught c = λ before marked follow so_far k low high.
     elim (cases_lt k end) [
       | inl moved ↦
           let here : 1 ≤ k = omega (arith, low, one) in
-          let row = c.catch_up_lines.ensures.before k here moved ∙ c.move_rows.ensures.moved k low moved in
+          let row = c.catch_up_lines.ensures.before k here moved ∙ c.move_rows.ensures.moved k low moved
+          ∙ ap (λ l. row_at l (k + shift)) c.push_moved.ensures.stay in
           subst (λ r. Follows columns r (row_at after k)) (sym row)
           (subst (Follows columns (row_at c.args.rows.now (k + shift))) (sym (row_moved before after c.args.screen.now.origins told k shift here (c.moved_end-end.ensures.moved k low moved)))
           (follow (k + shift) (omega (arith, low)) (omega (arith, moved))))
       | inr over ↦
-          let was = c.move_rows.ensures.turned k over high in
+          let was = c.move_rows.ensures.turned k over high ∙ ap (λ l. row_at l (k + c.args.line - end)) c.push_moved.ensures.stay in
           let wide = follow (k + c.args.line - end) (omega (arith, over, some)) (omega (arith, high, some, over)) in
           c.catch_up_lines.ensures.caught k over high (ap length was ∙ wide.columns)
     ]

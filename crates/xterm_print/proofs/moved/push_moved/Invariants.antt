@@ -7,6 +7,7 @@ use Rattle.xterm_print.proofs.moved.push_moved.Given as goal
 -- those so far that differ were added
 abbrev pub invariant-loop-line : goal.invariant-loop-line
 invariant-loop-line l = record {
+  stay : l.rows ≡ l.fn.rows;
   few : length l.changed.items + 1 ≤ l.line;
   changed : (p : ℕ → Bool) → ((k : ℕ) → l.fn.from ≤ k → k < l.line → p k ≡ not (same_row (row_at l.fn.rows k) (row_at l.fn.rows (k + l.fn.shift))))
       → l.fn.changed.items ≡ filter p (range_with_len 1 (l.fn.from - 1)) → l.changed.items ≡ filter p (range_with_len 1 (l.line - 1));
