@@ -17,7 +17,7 @@ use Rattle.xterm_page.specs.EntryText.{data_text, entry_front, entry_text, named
 use Rattle.xterm_page.specs.Page.{page_text}
 use Rattle.xterm_page.specs.Parts.{changed_text, chunk_text, closing, first_text, front_text, is_renewed, line_text, lines_text, opening, renewed, renewed_text}
 use Rattle.xterm_page.specs.Same.{same_row}
-use Rattle.xterm_page.proofs.RenewedLemmas.{told_of}
+use Rattle.xterm_page.proofs.RenewedLemmas.{line_told}
 use Rattle.xterm_page.proofs.SameLemmas.{row_itself}
 
 -- ---- the lines that an entry names
@@ -60,8 +60,8 @@ pub lines_renewed : (origins : List ℕ) (lines : ℕ) (before after : List (Lis
 unfolding lines_text line_text changed_text
 lines_renewed origins lines before after =
     let p : ℕ → Bool = λ line. is_renewed origins (row_at before line) (row_at after line) line in
-    flat_map-map (renewed_text after) (told_of lines before after) (filter p (range_with_len 1 lines))
-    ∙ passing (λ line. renewed_text after (told_of lines before after line)) p (range_with_len 1 lines)
+    flat_map-map (renewed_text after) (line_told lines before after) (filter p (range_with_len 1 lines))
+    ∙ passing (λ line. renewed_text after (line_told lines before after line)) p (range_with_len 1 lines)
 
 -- an entry: what opens it, its front, its lines, and what closes it
 pub entry_is : (origins : List ℕ) (due : ℕ) (before : List (List Cell)) (after : Console) → MarksTell before origins after.picture.rows

@@ -1,38 +1,38 @@
 -- The lines that are told as changed, in a list.
-use Rattle.std.proofs.Common.{◌≡◌, ◌≢◌, ℕ, zero, suc, ◌+◌, ◌-◌, ◌<◌, ◌≤◌, All, Bool, true, false, not, cond, List, None, [], ◌∷◌, ◌++◌, filter, length, map, get_or, set, take, refl, ap, sym, ◌∙◌, arith, append-nil, inl, inr}
-use Rattle.std.specs.Prelude.{◌&&◌, ◌||◌, ◌==◌, nat_eq}
+use Rattle.std.proofs.Common.{◌≡◌, ◌≢◌, ℕ, zero, suc, ◌+◌, ◌-◌, ◌<◌, ◌≤◌, Bool, true, false, not, cond, List, None, Option, Some, [], ◌∷◌, ◌++◌, filter, length, map, get_or, set, take, refl, ap, sym, ◌∙◌, arith, append-nil, inl, inr}
+use Rattle.std.specs.Prelude.{◌&&◌, ◌||◌, ◌==◌}
 use Rattle.std.specs.List.{flat_map, range_with_len}
 use Rattle.std.proofs.lemmas.Bool.{cases_Bool, cases_eq}
 use Rattle.std.proofs.lemmas.Bool.Decides.{nat_tests}
 use Rattle.std.proofs.lemmas.List.{get_or-map, length-map, map-append, take_more}
 use Rattle.std.proofs.lemmas.List.Concat.{flat_map-append}
-use Rattle.std.proofs.lemmas.List.Elements.{All-filter, All-from_get_or, All-map}
-use Rattle.std.proofs.lemmas.List.FromFn.{get_or-range_with_len, length-range_with_len}
 use Rattle.sheet.specs.Cells.{Cell}
 use Rattle.sheet.specs.Grid.{AreMarked as MarksTell, is_touched, row_at}
-use Rattle.xterm_print.proofs.KeptLemmas.{passing_more, passing_none, row_set_other}
-use Rattle.xterm_page.specs.Parts.{AreLines, is_renewed, renewed, renewed_lines, renewed_of, renewed_to}
+use Rattle.xterm_print.proofs.KeptLemmas.{filter_none, passing_more, passing_none, row_set_other}
+use Rattle.xterm_page.specs.Entries.{line_of}
+use Rattle.xterm_page.specs.Parts.{is_renewed, renewed, renewed_lines, renewed_to, told, told_of}
 use Rattle.xterm_page.specs.declared.kept.Renewed.{Renewed}
 use Rattle.xterm_page.specs.Same.{same_row}
 use Rattle.xterm_page.proofs.KeptLemmas.{row_written, stays}
+use Rattle.xterm_page.proofs.SameLemmas.{row_itself}
 
 -- ---- how they are told
 
 -- what is told of a line
-abbrev pub told_of : ℕ → List (List Cell) → List (List Cell) → ℕ → ℕ × Renewed
-told_of lines before after line = (line, renewed_of lines before (row_at after line))
+abbrev pub line_told : ℕ → List (List Cell) → List (List Cell) → ℕ → ℕ × Option ℕ
+line_told lines before after line = (line, line_of lines before (row_at after line))
 
-mapped_if : (f : ℕ → ℕ × Renewed) (line : ℕ) (here : Bool) → cond here (f line ∷ []) [] ≡ map f (cond here (line ∷ []) [])
+mapped_if : (f : ℕ → ℕ × Option ℕ) (line : ℕ) (here : Bool) → cond here (f line ∷ []) [] ≡ map f (cond here (line ∷ []) [])
 mapped_if f line true = refl
 mapped_if f line false = refl
 
 -- one line more
-pub renewed_more : (origins : List ℕ) (lines : ℕ) (before after : List (List Cell)) (line : ℕ) (here : Bool) (old new : List (ℕ × Renewed))
+pub renewed_more : (origins : List ℕ) (lines : ℕ) (before after : List (List Cell)) (line : ℕ) (here : Bool) (old new : List (ℕ × Option ℕ))
     → 1 ≤ line → here ≡ is_renewed origins (row_at before line) (row_at after line) line
-    → old ≡ renewed_to (line - 1) origins lines before after → new ≡ old ++ cond here (told_of lines before after line ∷ []) []
+    → old ≡ renewed_to (line - 1) origins lines before after → new ≡ old ++ cond here (line_told lines before after line ∷ []) []
     → new ≡ renewed_to (line + 1 - 1) origins lines before after
 renewed_more origins lines before after line here old new low is so_far more =
-    let f = told_of lines before after in
+    let f = line_told lines before after in
     let p : ℕ → Bool = λ k. is_renewed origins (row_at before k) (row_at after k) k in
     let was = filter p (range_with_len 1 (line - 1)) in
     let now = passing_more p line here was (was ++ cond here (line ∷ []) []) low is refl refl in
@@ -48,37 +48,47 @@ pub renewed_none : (origins : List ℕ) (lines : ℕ) (before after : List (List
 renewed_none origins lines before after line next low high none =
     let p : ℕ → Bool = λ k. is_renewed origins (row_at before k) (row_at after k) k in
     let all : line - 1 + (next - line) ≡ next - 1 = omega (arith, low, high) in
-    ap (map (told_of lines before after))
+    ap (map (line_told lines before after))
     (sym (passing_none p (line - 1) (next - line) (λ k from below.
     ap (λ b. b && not (same_row (row_at before k) (row_at after k))) (none k (omega (arith, from, low)) (omega (arith, below, all, low, high)))))
     ∙ ap (λ n. filter p (range_with_len 1 n)) all)
 
-in_range : (lines : ℕ) → All (λ n. (1 ≤ n) × (n ≤ lines)) (range_with_len 1 lines)
-in_range lines = All-from_get_or (λ n. (1 ≤ n) × (n ≤ lines)) (range_with_len 1 lines) 0 (λ i below.
-    let few : i < lines = omega (arith, below, length-range_with_len 1 lines) in
-    let at = get_or-range_with_len 1 lines i 0 few in
-    (omega (arith, at), omega (arith, at, few)))
-
-pub are_lines : (origins : List ℕ) (lines : ℕ) (before after : List (List Cell)) → AreLines lines (renewed origins lines before after)
-are_lines origins lines before after =
+-- where some lines are told, so do the rows differ
+pub some_renewed : (origins : List ℕ) (lines : ℕ) (before after : List (List Cell)) (to : ℕ) (changed : List (ℕ × Renewed))
+    → map told changed ≡ renewed_to to origins lines before after → 0 < length changed → after ≡ before → ⊥
+some_renewed origins lines before after to changed is some same =
     let p : ℕ → Bool = λ k. is_renewed origins (row_at before k) (row_at after k) k in
-    All-map (λ (one : ℕ × Renewed). (1 ≤ one.0) × (one.0 ≤ lines)) (told_of lines before after) (filter p (range_with_len 1 lines))
-    (All-filter p (λ n. (1 ≤ n) × (n ≤ lines)) (range_with_len 1 lines) (in_range lines))
+    let alike : (k : ℕ) → p k ≡ false = λ k.
+    ap (λ b. is_touched origins k && not b) (ap (λ rows. same_row (row_at before k) (row_at rows k)) same ∙ row_itself (row_at before k))
+    ∙ elim (cases_Bool (is_touched origins k)) [
+      | inl t ↦ rw t refl
+      | inr f ↦ rw f refl
+    ] in
+    let none = filter_none p alike (range_with_len 1 to) in
+    omega (arith, some, sym (length-map changed told), ap length is, ap (λ l. length (map (line_told lines before after) l)) none)
+
+-- where nothing is told of a row, it doesn't differ
+pub told_none : (result : Option Renewed) (here : Bool) (was : Option ℕ) → ((renewed : Renewed) → result ≡ Some renewed → ⊥)
+    → told_of result ≡ cond here (Some was) None → here ≡ false
+told_none (Some renewed) here was none is = absurd (none renewed refl)
+told_none None false was none is = refl
+told_none None true was none is = absurd (cc)
+
+-- as many lines as differ
+pub renewed_long : (origins : List ℕ) (lines : ℕ) (before after : List (List Cell)) (changed : List (ℕ × Renewed))
+    → map told changed ≡ renewed origins lines before after → length changed ≡ length (renewed_lines lines origins before after)
+renewed_long origins lines before after changed is =
+    sym (length-map changed told) ∙ ap length is ∙ length-map (renewed_lines lines origins before after) (line_told lines before after)
 
 -- one of them
 pub renewed_read : (origins : List ℕ) (lines : ℕ) (before after : List (List Cell)) (at : ℕ) (d : ℕ × Renewed) (changed : List (ℕ × Renewed))
-    → changed ≡ renewed origins lines before after → at < length changed
-    → get_or changed at d ≡ told_of lines before after (get_or (renewed_lines lines origins before after) at 0)
+    → map told changed ≡ renewed origins lines before after → at < length changed
+    → told (get_or changed at d) ≡ line_told lines before after (get_or (renewed_lines lines origins before after) at 0)
 renewed_read origins lines before after at d changed is within =
-    let f = told_of lines before after in
+    let f = line_told lines before after in
     let names = renewed_lines lines origins before after in
-    let below : at < length names = omega (arith, within, ap length is, length-map names f) in
-    ap (λ l. get_or l at d) is ∙ get_or-map f names at 0 d below
-
-pub renewed_long : (origins : List ℕ) (lines : ℕ) (before after : List (List Cell)) (changed : List (ℕ × Renewed))
-    → changed ≡ renewed origins lines before after → length changed ≡ length (renewed_lines lines origins before after)
-renewed_long origins lines before after changed is =
-    ap length is ∙ length-map (renewed_lines lines origins before after) (told_of lines before after)
+    let below : at < length names = omega (arith, within, renewed_long origins lines before after changed is) in
+    sym (get_or-map told changed at d (told d) within) ∙ ap (λ l. get_or l at (told d)) is ∙ get_or-map f names at 0 (told d) below
 
 -- texts of elements, and of one more
 pub texts_taken : {X : Type 0} (text : X → List ℕ) (xs : List X) (at : ℕ) (d : X) → at < length xs
@@ -89,7 +99,7 @@ texts_taken text xs at d within =
 
 -- no line, of which nothing is known
 abbrev pub no_line : ℕ × Renewed
-no_line = (0, record { number = 0; was = None })
+no_line = (0, record { number = None; was = None })
 
 -- ---- which they are
 

@@ -1,5 +1,5 @@
 -- Private: the parts of a page in the order in which they are written.
-use Rattle.std.specs.Prelude.{◌≡◌, ℕ, ◌%◌, ◌<◌, ◌≤◌, Bool, true, false, not, All, List, [], ◌∷◌, ◌++◌, ◌&&◌, Some, None, filter, length, map, if◌then◌else◌, slice_index_or}
+use Rattle.std.specs.Prelude.{◌≡◌, ℕ, ◌%◌, ◌<◌, ◌≤◌, Bool, true, false, not, All, IfSome, List, [], ◌∷◌, ◌++◌, ◌&&◌, Option, Some, None, filter, length, map, if◌then◌else◌, slice_index_or}
 use Rattle.std.specs.List.{flat_map, range_with_len}
 use Rattle.sheet.specs.Cells.{Cell}
 use Rattle.sheet.specs.Grid.{is_touched, row_at}
@@ -34,26 +34,35 @@ changed_text lines before row line = named_text (change_of lines before row line
 abbrev pub is_renewed : List ℕ → List Cell → List Cell → ℕ → Bool
 is_renewed origins was row line = is_touched origins line && not (same_row was row)
 
--- what is known of a row: its number, and the first of so many lines that was this row before
-abbrev pub renewed_of : ℕ → List (List Cell) → List Cell → Renewed
-renewed_of lines before row = record { number = row_number row; was = line_of lines before row }
+-- what is told of a row that differs: the first line that was this row before ..
+abbrev pub told_of : Option Renewed → Option (Option ℕ)
+told_of (Some renewed) = Some renewed.was
+told_of None = None
+
+-- .. and of a line
+abbrev pub told : ℕ × Renewed → ℕ × Option ℕ
+told (line, renewed) = (line, renewed.was)
 
 -- the lines that are told as changed, up to one
 abbrev pub renewed_lines : ℕ → List ℕ → List (List Cell) → List (List Cell) → List ℕ
 renewed_lines to origins before after =
     filter (λ line. is_renewed origins (row_at before line) (row_at after line) line) (range_with_len 1 to)
 
--- what is known of each of them, up to one of so many and of all
-abbrev pub renewed_to : ℕ → List ℕ → ℕ → List (List Cell) → List (List Cell) → List (ℕ × Renewed)
+-- what is told of each of them, up to one of so many and of all
+abbrev pub renewed_to : ℕ → List ℕ → ℕ → List (List Cell) → List (List Cell) → List (ℕ × Option ℕ)
 renewed_to to origins lines before after =
-    map (λ line. (line, renewed_of lines before (row_at after line))) (renewed_lines to origins before after)
+    map (λ line. (line, line_of lines before (row_at after line))) (renewed_lines to origins before after)
 
-abbrev pub renewed : List ℕ → ℕ → List (List Cell) → List (List Cell) → List (ℕ × Renewed)
+abbrev pub renewed : List ℕ → ℕ → List (List Cell) → List (List Cell) → List (ℕ × Option ℕ)
 renewed origins lines before after = renewed_to lines origins lines before after
 
 -- these are lines of so many
 abbrev pub AreLines : ℕ → List (ℕ × Renewed) → Type 0
 AreLines lines changed = All (λ one. (1 ≤ one.0) × (one.0 ≤ lines)) changed
+
+-- where the number of a line's row is known, it is that
+abbrev pub AreNumbered : List (List Cell) → List (ℕ × Renewed) → Type 0
+AreNumbered rows changed = All (λ one. IfSome one.1.number (λ number. number ≡ row_number (row_at rows one.0))) changed
 
 -- the number of each of the first rows has a mark
 abbrev pub AreMarked : List (List Cell) → ℕ → List Bool → Type 0
@@ -62,7 +71,7 @@ AreMarked rows count marks =
 
 -- no line, of which nothing is known
 abbrev pub no_line : ℕ × Renewed
-no_line = (0, record { number = 0; was = None })
+no_line = (0, record { number = None; was = None })
 
 -- a line that differs was another one, below it and behind the last that was written, which differs too
 pub record MovedUp (changed : List (ℕ × Renewed)) (at last from : ℕ) : Type 0 where
@@ -71,9 +80,9 @@ pub record MovedUp (changed : List (ℕ × Renewed)) (at last from : ℕ) : Type
   pub behind : last < from
   pub differs : (to : ℕ) × (to < length changed) × ((slice_index_or changed to no_line).0 ≡ from)
 
--- what is written of a line by what is known of it
-abbrev pub renewed_text : List (List Cell) → ℕ × Renewed → List ℕ
-renewed_text after (line, renewed) = named_text (line, change_by renewed.was (row_at after line))
+-- what is written of a line by what is told of it
+abbrev pub renewed_text : List (List Cell) → ℕ × Option ℕ → List ℕ
+renewed_text after (line, was) = named_text (line, change_by was (row_at after line))
 
 -- what is written of a line
 unfoldable pub line_text : List ℕ → ℕ → List (List Cell) → List Cell → ℕ → List ℕ

@@ -1,13 +1,13 @@
 //! The entry of a chunk.
 
-ghost use Rattle.std.specs.Prelude.{◌≡◌, List};
+ghost use Rattle.std.specs.Prelude.{◌≡◌, List, map};
 ghost use Rattle.std.specs.List.{flat_map};
 ghost use Rattle.sheet.specs.Cells.{Cell};
 ghost use Rattle.tape_core.specs.Devices.{Gave};
 ghost use Rattle.xterm_page.specs.Entries.{entry_of};
 ghost use Rattle.xterm_page.specs.EntryText.{next_text};
 ghost use Rattle.held.specs.Held.{Wrote};
-ghost use Rattle.xterm_page.specs.Parts.{AreLines, front_text, renewed, renewed_text};
+ghost use Rattle.xterm_page.specs.Parts.{AreLines, front_text, renewed, renewed_text, told};
 ghost use Rattle.xterm_term.specs.Seen.{Tells};
 
 use crate::kept::{KeptRow, Renewed, catch_up, changed_rows, kept_rows};
@@ -81,7 +81,7 @@ fn put_entry<W: Write>(
 )
     requires { AreLines after.now.console.picture.lines changed.now }
     ensures { (before : List (List Cell)) → Tells before after.now
-        → changed.now ≡ renewed after.now.origins after.now.console.picture.lines before
+        → map told changed.now ≡ renewed after.now.origins after.now.console.picture.lines before
         after.now.console.picture.rows → Gave W.contents writer.old writer.new
         (next_text (entry_of due before after.now.console)) }
 {
@@ -122,7 +122,7 @@ fn put_lines<W: Write>(
 )
     requires { AreLines screen.now.picture.lines changed.now }
     ensures { Wrote W.contents writer.old held.old.items writer.new held.new.items
-        (flat_map (renewed_text screen.now.picture.rows) changed.now) }
+        (flat_map (λ one. renewed_text screen.now.picture.rows (told one)) changed.now) }
 {
     for at in 0..changed.len() {
         let (line, renewed) = changed[at];

@@ -1,9 +1,9 @@
 //! Rows that are kept of a sheet while the next chunk is played.
 
-ghost use Rattle.std.specs.Prelude.{◌≡◌, ◌+◌, ◌%◌, ◌<◌, ◌≤◌, IfOk, IfSome, None, Some, drop, if◌then◌else◌, length, true};
-ghost use Rattle.sheet.specs.Grid.{AreMarked as MarksTell, IsUsed, is_touched, row_at};
+ghost use Rattle.std.specs.Prelude.{◌≡◌, ◌+◌, ◌-◌, ◌%◌, ◌<◌, ◌≤◌, IfOk, IfSome, None, Some, drop, if◌then◌else◌, length, map, true};
+ghost use Rattle.sheet.specs.Grid.{AreMarked as MarksTell, AreTold, IsUsed, is_touched, row_at};
 ghost use Rattle.xterm_page.specs.Entries.{line_of};
-ghost use Rattle.xterm_page.specs.Parts.{AreLines, AreMarked, AreWide, KeptAll, MovedUp, is_renewed, renewed, renewed_of};
+ghost use Rattle.xterm_page.specs.Parts.{AreLines, AreMarked, AreNumbered, AreWide, KeptAll, MovedUp, is_renewed, renewed, renewed_to, told, told_of};
 ghost use Rattle.xterm_page.specs.Same.{row_number, same_row};
 
 use crate::same::row_number;
@@ -123,12 +123,26 @@ pub(crate) fn kept_rows(alloc: Global, screen: &Screen) -> Result<Vec<KeptRow>, 
     Ok(rows)
 }
 
-/// What is known of a row that differs from the one that was kept of its line: its number, and the first line that was
-/// this row.
+/// What is known of a row that differs from the one that was kept of its line: the first line that was this row, and its
+/// number, unless the sheet alone tells which row it was.
 #[derive(Clone, Copy)]
 pub(crate) struct Renewed {
-    number: u64,
+    number: Option<u64>,
     pub(crate) was: Option<usize>,
+}
+
+impl Renewed {
+    /// The number of the row, which these cells are.
+    fn number_of(self, cells: &[Cell], used: usize) -> u64
+        requires used { IsUsed cells.now used }
+        requires number { IfSome self.number (λ number. number ≡ row_number cells.now) }
+        ensures { result ≡ row_number cells.now }
+    {
+        match self.number {
+            Some(number) => number,
+            None => row_number(cells, used),
+        }
+    }
 }
 
 /// The first of so many lines that was a row, by its number.
@@ -179,12 +193,14 @@ fn mark_to(rows: &[KeptRow], marked: usize, place: usize, marks: &mut [bool; MAR
 }
 
 /// What is known of a line that was touched if it differs from the row that was kept of it, by a guess behind how many
-/// lines its row was. The numbers of the first rows are marked.
+/// lines its row was. The numbers of the first rows are marked, and where some row is another one the sheet tells which
+/// rows moved.
 fn renewed_line(
     rows: &[KeptRow],
     screen: &Screen,
     line: u16,
     guess: usize,
+    some: bool,
     marked: usize,
     marks: &[bool; MARKS],
 ) -> Option<Renewed>
@@ -193,19 +209,55 @@ fn renewed_line(
     requires touched { is_touched screen.now.origins line ≡ true }
     requires rows { length rows.now ≡ screen.now.picture.lines }
     requires marked { AreMarked rows.now marked marks.now }
-    ensures { result ≡ (if is_renewed screen.now.origins (row_at rows.now line)
+    ensures told { (some ≡ true → AreTold rows.now screen.now.origins screen.now.picture.rows)
+        → told_of result ≡ (if is_renewed screen.now.origins (row_at rows.now line)
         (row_at screen.now.picture.rows line) line
-        then Some (renewed_of screen.now.picture.lines rows.now (row_at screen.now.picture.rows line))
+        then Some (line_of screen.now.picture.lines rows.now (row_at screen.now.picture.rows line))
         else None) }
+    ensures number { IfSome result (λ renewed. IfSome renewed.number (λ number. number
+        ≡ row_number (row_at screen.now.picture.rows line))) }
 {
-    let (cells, used) = (screen.row(line), screen.used(line));
+    if some && has_come(rows, screen, line, guess) {
+        return Some(Renewed {
+            number: None,
+            was: line_at(rows, guess, marked, marks),
+        });
+    }
     if has_moved(rows, screen, line, guess) {
-        return Some(renewed_as(rows, cells, used, guess, marked, marks));
+        let row = &rows[guess];
+        return Some(Renewed {
+            number: Some(row.number),
+            was: line_at(rows, guess, marked, marks),
+        });
     }
     if is_renewed(&rows[line as usize - 1], screen, line) {
-        return Some(renewed_of(rows, cells, used));
+        return Some(renewed_of(rows, screen.row(line), screen.used(line)));
     }
     None
+}
+
+/// Whether the sheet tells that the row of a line came up from behind so many lines, while the one that was kept of the
+/// line has another number: then it differs, without a look at its cells.
+fn has_come(rows: &[KeptRow], screen: &Screen, line: u16, guess: usize) -> bool
+    requires low { 1 ≤ line }
+    requires high { line ≤ screen.now.picture.lines }
+    requires touched { is_touched screen.now.origins line ≡ true }
+    requires rows { length rows.now ≡ screen.now.picture.lines }
+    ensures within { result ≡ true → guess < length rows.now }
+    ensures same { AreTold rows.now screen.now.origins screen.now.picture.rows → result ≡ true
+        → row_at screen.now.picture.rows line ≡ row_at rows.now (guess + 1) }
+    ensures renewed { AreTold rows.now screen.now.origins screen.now.picture.rows → result ≡ true
+        → is_renewed screen.now.origins (row_at rows.now line)
+        (row_at screen.now.picture.rows line) line ≡ true }
+{
+    if rows.len() <= guess || guess < line as usize {
+        return false;
+    }
+    if screen.origin(line) as usize != guess + 1 {
+        return false;
+    }
+    let (was, own) = (&rows[guess], &rows[line as usize - 1]);
+    was.number != own.number
 }
 
 /// Whether the row of a line that was touched was behind so many lines, while the one that was kept of it has another
@@ -231,46 +283,31 @@ fn has_moved(rows: &[KeptRow], screen: &Screen, line: u16, guess: usize) -> bool
 /// What is known of a row.
 fn renewed_of(rows: &[KeptRow], cells: &[Cell], used: usize) -> Renewed
     requires { IsUsed cells.now used }
-    ensures { result ≡ renewed_of (length rows.now) rows.now cells.now }
+    ensures number { result.number ≡ Some (row_number cells.now) }
+    ensures was { result.was ≡ line_of (length rows.now) rows.now cells.now }
 {
     let number = row_number(cells, used);
     let was = line_of(rows, rows.len(), cells, used, number);
-    Renewed { number, was }
+    Renewed {
+        number: Some(number),
+        was,
+    }
 }
 
-/// The same of a row that was behind so many lines, so that its number is known. Where that has no mark, none of the
-/// first rows is the same.
-fn renewed_as(
-    rows: &[KeptRow],
-    cells: &[Cell],
-    used: usize,
-    place: usize,
-    marked: usize,
-    marks: &[bool; MARKS],
-) -> Renewed
+/// The first line that was the row behind so many lines. Where its number has no mark, none of the first rows is the
+/// same.
+fn line_at(rows: &[KeptRow], place: usize, marked: usize, marks: &[bool; MARKS]) -> Option<usize>
     requires within { place < length rows.now }
-    requires used { IsUsed cells.now used }
-    requires same { same_row (row_at rows.now (place + 1)) cells.now ≡ true }
     requires marked { AreMarked rows.now marked marks.now }
-    ensures { result ≡ renewed_of (length rows.now) rows.now cells.now }
+    ensures { result ≡ line_of (length rows.now) rows.now (row_at rows.now (place + 1)) }
 {
     let row = &rows[place];
-    let number = row.number;
-    if place <= marked && !marks[mark_of(number)] {
-        return Renewed {
-            number,
-            was: Some(place + 1),
-        };
+    if place <= marked && !marks[mark_of(row.number)] {
+        return Some(place + 1);
     }
-    match line_of(rows, place, cells, used, number) {
-        Some(line) => Renewed {
-            number,
-            was: Some(line),
-        },
-        None => Renewed {
-            number,
-            was: Some(place + 1),
-        },
+    match line_of(rows, place, row.cells.as_slice(), row.used, row.number) {
+        Some(line) => Some(line),
+        None => Some(place + 1),
     }
 }
 
@@ -282,9 +319,11 @@ pub(crate) fn changed_rows(
     screen: &Screen,
 ) -> Result<Vec<(u16, Renewed)>, AllocError>
     requires { length rows.now ≡ screen.now.picture.lines }
-    ensures changed { IfOk result (λ changed. changed.items ≡ renewed screen.now.origins
-        screen.now.picture.lines rows.now screen.now.picture.rows) }
+    ensures changed { IfOk result (λ changed. MarksTell rows.now screen.now.origins screen.now.picture.rows
+        → map told changed.items ≡ renewed screen.now.origins screen.now.picture.lines rows.now
+        screen.now.picture.rows) }
     ensures lines { IfOk result (λ changed. AreLines screen.now.picture.lines changed.items) }
+    ensures numbers { IfOk result (λ changed. AreNumbered screen.now.picture.rows changed.items) }
 {
     let mut changed = Vec::with_capacity(alloc, screen.lines() as usize)?;
     // No row has moved yet: the guess lies outside the sheet.
@@ -293,33 +332,141 @@ pub(crate) fn changed_rows(
     let mut marks = [false; MARKS];
     let mut line = screen.next_touched(1);
     while line <= screen.lines() {
-        let place = line as usize - 1;
-        let guess = place.wrapping_add(shift);
-        if let Some(renewed) = renewed_line(rows, screen, line, guess, marked, &marks) {
-            shift = shift_by(rows, renewed, line, shift);
+        let guess = guess_of(screen, line, shift);
+        let some = !changed.is_empty();
+        let mut next = line + 1;
+        if let Some(renewed) = renewed_line(rows, screen, line, guess, some, marked, &marks) {
+            shift = shift_by(rows, renewed, line, guess, shift);
             // Behind as many lines the next row is looked for.
-            let next = (line as usize).wrapping_add(shift);
-            marked = mark_to(rows, marked, next, &mut marks);
+            let place = (line as usize).wrapping_add(shift);
+            marked = mark_to(rows, marked, place, &mut marks);
             changed.push((line, renewed))?;
+            (next, marked) = push_come(
+                rows,
+                screen,
+                next,
+                shift,
+                marked,
+                &mut marks,
+                &mut changed,
+            )?;
         }
-        line = screen.next_touched(line + 1);
+        line = screen.next_touched(next);
     }
     Ok(changed)
 }
 
-/// By how many lines the rows from a line on have moved: as many as those before it, if its row did; else as many as it,
-/// where that is known.
-fn shift_by(rows: &[KeptRow], renewed: Renewed, line: u16, shift: usize) -> usize {
-    let guess = (line as usize).wrapping_add(shift).wrapping_sub(1);
+/// Adds the lines from one on whose rows came up by as many lines, if the sheet tells so, as long as they differ and no
+/// row above was the same; tells where they end, and how many rows are marked then. Some row is another one.
+fn push_come(
+    rows: &[KeptRow],
+    screen: &Screen,
+    from: u16,
+    shift: usize,
+    marked: usize,
+    marks: &mut [bool; MARKS],
+    changed: &mut Vec<(u16, Renewed)>,
+) -> Result<(u16, usize), AllocError>
+    requires low { 1 ≤ from }
+    requires high { from ≤ screen.now.picture.lines + 1 }
+    requires rows { length rows.now ≡ screen.now.picture.lines }
+    requires marked { AreMarked rows.now marked marks.old }
+    ensures low { IfOk result (λ r. from ≤ r.0) }
+    ensures high { IfOk result (λ r. r.0 ≤ screen.now.picture.lines + 1) }
+    ensures marked { IfOk result (λ r. AreMarked rows.now r.1 marks.new) }
+    ensures told { IfOk result (λ r. AreTold rows.now screen.now.origins screen.now.picture.rows
+        → map told changed.old.items ≡ renewed_to (from - 1) screen.now.origins screen.now.picture.lines
+        rows.now screen.now.picture.rows
+        → map told changed.new.items ≡ renewed_to (r.0 - 1) screen.now.origins screen.now.picture.lines
+        rows.now screen.now.picture.rows) }
+    ensures lines { IfOk result (λ _. AreLines screen.now.picture.lines changed.old.items
+        → AreLines screen.now.picture.lines changed.new.items) }
+    ensures numbers { IfOk result (λ _. AreNumbered screen.now.picture.rows changed.old.items
+        → AreNumbered screen.now.picture.rows changed.new.items) }
+{
+    if rows.len() < shift || marked != from as usize - 1 + shift {
+        return Ok((from, marked));
+    }
+    let mut end = from;
+    while comes_first(rows, screen, end, shift, marks) {
+        let place = end as usize - 1 + shift;
+        let came = &rows[place];
+        marks[mark_of(came.number)] = true;
+        let was = Some(place + 1);
+        changed.push((end, Renewed { number: None, was }))?;
+        end += 1;
+    }
+    Ok((end, end as usize - 1 + shift))
+}
+
+/// Whether the sheet tells that the row of a line came up by so many lines, while the one that was kept of the line has
+/// another number, and no row above has its number: all these are marked.
+fn comes_first(
+    rows: &[KeptRow],
+    screen: &Screen,
+    line: u16,
+    shift: usize,
+    marks: &[bool; MARKS],
+) -> bool
+    requires low { 1 ≤ line }
+    requires high { line ≤ screen.now.picture.lines + 1 }
+    requires rows { length rows.now ≡ screen.now.picture.lines }
+    requires shift { shift ≤ length rows.now }
+    requires marked { AreMarked rows.now (line - 1 + shift) marks.now }
+    ensures within { result ≡ true → line + shift ≤ screen.now.picture.lines }
+    ensures next { result ≡ true → line < line + shift }
+    ensures small { result ≡ true → line + shift ≤ u16.MAX }
+    ensures renewed { AreTold rows.now screen.now.origins screen.now.picture.rows → result ≡ true
+        → is_renewed screen.now.origins (row_at rows.now line)
+        (row_at screen.now.picture.rows line) line ≡ true }
+    ensures was { AreTold rows.now screen.now.origins screen.now.picture.rows → result ≡ true
+        → line_of screen.now.picture.lines rows.now (row_at screen.now.picture.rows line)
+        ≡ Some (line + shift) }
+{
+    let place = line as usize - 1;
+    if shift == 0 || rows.len() - shift <= place {
+        return false;
+    }
+    if screen.origin(line) as usize != place + 1 + shift {
+        return false;
+    }
+    let (was, own) = (&rows[place + shift], &rows[place]);
+    was.number != own.number && !marks[mark_of(was.number)]
+}
+
+/// Behind how many lines the row of a line is looked for: where the sheet tells that it was, else as far away as the row
+/// above it.
+fn guess_of(screen: &Screen, line: u16, shift: usize) -> usize
+    requires low { 1 ≤ line }
+    requires high { line ≤ screen.now.picture.lines }
+{
+    let origin = screen.origin(line) as usize;
+    if origin > 0 {
+        return origin - 1;
+    }
+    (line as usize - 1).wrapping_add(shift)
+}
+
+/// By how many lines the rows from a line on have moved: as many as it, if its row was found where it was looked for; else
+/// as many as it, where that is known, or as the row above.
+fn shift_by(rows: &[KeptRow], renewed: Renewed, line: u16, guess: usize, shift: usize) -> usize {
     if guess < rows.len() {
         let row = &rows[guess];
-        if row.number == renewed.number {
-            return shift;
+        if is_number(renewed.number, row.number) {
+            return guess.wrapping_sub(line as usize).wrapping_add(1);
         }
     }
     match renewed.was {
         Some(other) => other.wrapping_sub(line as usize),
         None => shift,
+    }
+}
+
+/// Whether a number that may be unknown is another one, as far as is known.
+fn is_number(number: Option<u64>, other: u64) -> bool {
+    match number {
+        Some(number) => number == other,
+        None => true,
     }
 }
 
@@ -359,10 +506,11 @@ fn source_of(changed: &[(u16, Renewed)], at: usize, last: usize) -> Option<usize
 pub(crate) fn catch_up(rows: &mut [KeptRow], changed: &[(u16, Renewed)], screen: &Screen)
     requires rows { length rows.old ≡ screen.now.picture.lines }
     requires lines { AreLines screen.now.picture.lines changed.now }
-    requires changed { changed.now ≡ renewed screen.now.origins screen.now.picture.lines rows.old
-        screen.now.picture.rows }
+    requires numbers { AreNumbered screen.now.picture.rows changed.now }
     ensures { AreWide screen.now.picture.lines screen.now.picture.columns rows.old
         → MarksTell rows.old screen.now.origins screen.now.picture.rows
+        → map told changed.now ≡ renewed screen.now.origins screen.now.picture.lines rows.old
+        screen.now.picture.rows
         → KeptAll screen.now.picture.lines screen.now.picture.columns rows.new
         screen.now.picture.rows }
 {
@@ -378,7 +526,9 @@ pub(crate) fn catch_up(rows: &mut [KeptRow], changed: &[(u16, Renewed)], screen:
                 last = from;
             }
             None => {
-                rows[place].copy_from(screen.row(line), screen.used(line), renewed.number);
+                let (cells, used) = (screen.row(line), screen.used(line));
+                let number = renewed.number_of(cells, used);
+                rows[place].copy_from(cells, used, number);
                 last = last.max(line as usize);
             }
         }

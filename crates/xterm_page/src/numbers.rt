@@ -1,6 +1,6 @@
 //! Numbers as an entry tells them.
 
-ghost use Rattle.std.specs.Prelude.{◌≡◌, decimal};
+ghost use Rattle.std.specs.Prelude.{◌≡◌};
 ghost use Rattle.screen_page.specs.EntryText.{comma_number};
 ghost use Rattle.held.specs.Held.{Wrote};
 
@@ -9,7 +9,8 @@ use held::{HELD, put, put_byte, put_number};
 use std::io::Write;
 use tape_core::Watched;
 
-/// Writes a comma and a number.
+/// Writes a comma and a number. Most have at most three digits.
+#[tactic(auto, using(std::proofs::lemmas::Fmt::decimal_digit, itoa::proofs::Decimal::decimal_two, crate::proofs::NumberLemmas::decimal_three))]
 pub(crate) fn put_comma_number<W: Write>(
     number: usize,
     held: &mut ArrayVec<u8, HELD>,
@@ -18,23 +19,21 @@ pub(crate) fn put_comma_number<W: Write>(
     ensures { Wrote W.contents writer.old held.old.items writer.new held.new.items
         (comma_number number) }
 {
-    put_byte(b',', held, writer);
-    put_digits(number, held, writer);
-}
-
-/// Writes a number. Most have at most three digits.
-#[tactic(auto, using(crate::proofs::NumberLemmas::decimal_three))]
-fn put_digits<W: Write>(number: usize, held: &mut ArrayVec<u8, HELD>, writer: &mut Watched<W>)
-    ensures { Wrote W.contents writer.old held.old.items writer.new held.new.items
-        (decimal number) }
-{
-    if number < 100 {
-        put_number(number, held, writer);
+    if number < 10 {
+        put(&[b',', b'0' + number as u8], held, writer);
+    } else if number < 100 {
+        let number = number as u8;
+        put(
+            &[b',', b'0' + number / 10, b'0' + number % 10],
+            held,
+            writer,
+        );
     } else if number < 1000 {
         let (first, rest) = ((number / 100) as u8, (number % 100) as u8);
-        let digits = [b'0' + first, b'0' + rest / 10, b'0' + rest % 10];
+        let digits = [b',', b'0' + first, b'0' + rest / 10, b'0' + rest % 10];
         put(&digits, held, writer);
     } else {
+        put_byte(b',', held, writer);
         put_number(number, held, writer);
     }
 }

@@ -1,4 +1,4 @@
-use Rattle.std.proofs.Common.{List, subst, sym, get_or}
+use Rattle.std.proofs.Common.{List, ℕ, subst, sym, get_or}
 use Rattle.std.specs.List.{flat_map}
 use Rattle.std.proofs.lemmas.List.{take_all}
 use Rattle.sheet.specs.Cells.{Cell}
@@ -6,7 +6,8 @@ use Rattle.sheet.specs.Grid.{IsUsed}
 use Rattle.xterm_page.specs.Entries.{change_by}
 use Rattle.xterm_page.specs.EntryText.{named_text}
 use Rattle.held.specs.Held.{Wrote}
-use Rattle.xterm_page.specs.Parts.{no_line, renewed_text}
+use Rattle.xterm_page.specs.Parts.{no_line, renewed_text, told}
+use Rattle.xterm_page.specs.declared.kept.Renewed.{Renewed}
 use Rattle.xterm_page.proofs.RenewedLemmas.{texts_taken}
 use Rattle.held.proofs.HeldLemmas.{wrote_both, wrote_none}
 use Rattle.xterm_page.proofs.entry_printer.put_lines.Goals as goal
@@ -24,11 +25,11 @@ loop-at-preserved g c =
     let after = c.args.screen.now.picture.rows in
     let one = get_or changed at no_line in
     subst (Wrote g.W.Write.contents c.args.writer.now c.args.held.now.items c.put_changed.new.writer c.put_changed.new.held.items)
-    (sym (texts_taken (renewed_text after) changed at no_line c.loop-at-test.true))
+    (sym (texts_taken (λ (x : ℕ × Renewed). renewed_text after (told x)) changed at no_line c.loop-at-test.true))
     (wrote_both (subst (λ (r : List Cell). Wrote g.W.Write.contents c.loop-at.writer c.loop-at.held.items c.put_changed.new.writer c.put_changed.new.held.items (named_text (one.0, change_by one.1.was r)))
     c.row.ensures.value c.put_changed.ensures) c.loop-at.invariant)
 
 pub returns : goal.returns
 returns g c =
-    subst (λ l. Wrote g.W.Write.contents c.args.writer.now c.args.held.now.items c.loop-at.writer c.loop-at.held.items (flat_map (renewed_text c.args.screen.now.picture.rows) l))
+    subst (λ l. Wrote g.W.Write.contents c.args.writer.now c.args.held.now.items c.loop-at.writer c.loop-at.held.items (flat_map (λ (x : ℕ × Renewed). renewed_text c.args.screen.now.picture.rows (told x)) l))
     (take_all c.loop-at.at c.args.changed.now c.loop-at-test.false) c.loop-at.invariant

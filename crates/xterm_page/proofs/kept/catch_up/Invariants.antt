@@ -1,5 +1,5 @@
-use Rattle.std.proofs.Common.{◌≡◌, ℕ, ◌≤◌, length}
-use Rattle.xterm_page.specs.Parts.{AreWide, renewed_lines}
+use Rattle.std.proofs.Common.{◌≡◌, ℕ, ◌≤◌, length, map}
+use Rattle.xterm_page.specs.Parts.{AreWide, renewed, renewed_lines, told}
 use Rattle.xterm_page.proofs.CaughtLemmas.{Caught}
 use Rattle.xterm_page.proofs.kept.catch_up.Given as goal
 
@@ -7,7 +7,8 @@ use Rattle.xterm_page.proofs.kept.catch_up.Given as goal
 abbrev pub invariant-loop-at : goal.invariant-loop-at
 invariant-loop-at l = record {
   whole : length l.rows ≡ l.fn.screen.picture.lines;
-  told : AreWide l.fn.screen.picture.lines l.fn.screen.picture.columns l.fn.rows → (k : ℕ) → 1 ≤ k → k ≤ l.fn.screen.picture.lines
+  told : AreWide l.fn.screen.picture.lines l.fn.screen.picture.columns l.fn.rows
+      → map told l.changed ≡ renewed l.fn.screen.origins l.fn.screen.picture.lines l.fn.rows l.fn.screen.picture.rows → (k : ℕ) → 1 ≤ k → k ≤ l.fn.screen.picture.lines
       → Caught (renewed_lines l.fn.screen.picture.lines l.fn.screen.origins l.fn.rows l.fn.screen.picture.rows) l.at l.last l.fn.screen.picture.columns
       l.fn.rows l.fn.screen.picture.rows l.rows k;
 }

@@ -1,4 +1,4 @@
-use Rattle.std.proofs.Common.{◌∙◌, ap, subst, sym}
+use Rattle.std.proofs.Common.{◌∙◌, ap, subst}
 use Rattle.std.proofs.lemmas.List.{get_or_default}
 use Rattle.sheet.specs.declared.rendition.Colour.TheVariants.{Default}
 use Rattle.sheet.specs.declared.rendition.Rendition.{Rendition}

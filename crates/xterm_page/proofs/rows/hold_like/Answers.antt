@@ -1,4 +1,4 @@
-use Rattle.std.proofs.Common.{◌≡◌, ◌<◌, [], ◌∷◌, ◌++◌, ap, ap₂, append_assoc, sym, ◌∙◌, arith, length, take}
+use Rattle.std.proofs.Common.{◌<◌, [], ◌∷◌, ◌++◌, ap, ap₂, append_assoc, sym, ◌∙◌, arith, length, take}
 use Rattle.std.specs.List.{flat_map}
 use Rattle.sheet.specs.Cells.{Cell}
 use Rattle.screen_page.specs.EntryText.{string_byte}

@@ -10,8 +10,8 @@ unfolding named_text change_text
 returns-in-Some g c =
     let line = c.args.line in
     let row = c.args.cells.now in
-    subst (λ (o : Option ℕ). Wrote g.W.Write.contents c.args.writer.now c.args.held.now.items c.put_comma_number-in-Some.new.writer c.put_comma_number-in-Some.new.held.items (named_text (line, change_by o row)))
-    (sym c.in-Some.is) (wrote_both c.put_comma_number-in-Some.ensures c.put_comma_number.ensures)
+    subst (λ (o : Option ℕ). Wrote g.W.Write.contents c.args.writer.now c.args.held.now.items c.put_moved.new.writer c.put_moved.new.held.items (named_text (line, change_by o row)))
+    (sym c.in-Some.is) c.put_moved.ensures
 
 pub returns-in-None : goal.returns-in-None
 unfolding named_text change_text

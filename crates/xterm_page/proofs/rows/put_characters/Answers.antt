@@ -1,8 +1,8 @@
-use Rattle.std.proofs.Common.{◌≡◌, ◌+◌, ◌-◌, ◌∙◌, add-zero, ap, sym, subst, arith, drop, length, take}
+use Rattle.std.proofs.Common.{◌≡◌, ◌+◌, ◌-◌, ◌∙◌, sym, subst, arith, drop, length, take}
 use Rattle.held.specs.Held.{Wrote}
 use Rattle.xterm_page.specs.Plain.{string_of}
 use Rattle.xterm_rows.specs.Runs.{begins}
-use Rattle.xterm_rows.proofs.GroupLemmas.{reach_ends, reach_more, reach_none, reach_to}
+use Rattle.xterm_rows.proofs.GroupLemmas.{reach_more, reach_to}
 use Rattle.xterm_page.proofs.StringLemmas.{string_on}
 use Rattle.held.proofs.HeldLemmas.{wrote_both}
 use Rattle.xterm_page.proofs.rows.put_characters.Goals as goal

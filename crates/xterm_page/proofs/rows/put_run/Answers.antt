@@ -1,4 +1,4 @@
-use Rattle.std.proofs.Common.{◌≡◌, ◌-◌, ◌∷◌, [], ◌++◌, ℕ, ap, ap₂, append_assoc, drop, length, subst, sym, ◌∙◌, take}
+use Rattle.std.proofs.Common.{◌≡◌, ◌-◌, ◌∷◌, [], ℕ, ap, ap₂, append_assoc, drop, length, subst, ◌∙◌, take}
 use Rattle.std.specs.List.{flat_map}
 use Rattle.std.proofs.lemmas.List.{get_or_default}
 use Rattle.sheet.specs.declared.rendition.Colour.TheVariants.{Default}

@@ -1,5 +1,4 @@
-use Rattle.std.proofs.Common.{◌≡◌, ◌-◌, ◌+◌, ap, ap₂, sym, ◌∙◌, arith, drop, get_or, length}
-use Rattle.sheet.specs.Cells.{Cell}
+use Rattle.std.proofs.Common.{◌≡◌, ◌-◌, ◌+◌, ap, ap₂, sym, ◌∙◌, arith, drop, length}
 use Rattle.sheet.specs.Mixed.{mixed}
 use Rattle.xterm_page.specs.Same.{row_number}
 use Rattle.xterm_page.proofs.UsedLemmas.{nothing_behind, number_more}

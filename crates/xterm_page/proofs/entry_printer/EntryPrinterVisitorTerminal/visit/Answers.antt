@@ -1,4 +1,4 @@
-use Rattle.std.proofs.Common.{◌≡◌, ◌∙◌, List, ℕ, length, ap, ap₂, sym, subst, arith}
+use Rattle.std.proofs.Common.{◌≡◌, ◌∙◌, List, ℕ, length, map, ap, ap₂, sym, subst, arith}
 use Rattle.tape_core.specs.Devices.{Gave}
 use Rattle.sheet.specs.Cells.{Cell}
 use Rattle.sheet.specs.Grid.{AreMarked as MarksTell}
@@ -7,7 +7,7 @@ use Rattle.xterm_term.specs.Console.{Console}
 use Rattle.xterm_print.proofs.ShownLemmas.{written_back}
 use Rattle.xterm_page.specs.Entries.{console_by, entry_of}
 use Rattle.xterm_page.specs.EntryText.{next_text}
-use Rattle.xterm_page.specs.Parts.{AreKept, AreLines, AreWide, renewed}
+use Rattle.xterm_page.specs.Parts.{AreKept, AreLines, AreNumbered, AreWide, renewed, told}
 use Rattle.xterm_page.proofs.KeptLemmas.{kept_by, wide_by}
 use Rattle.xterm_page.proofs.entry_printer.EntryPrinterVisitorTerminal.visit.Goals as goal
 
@@ -25,8 +25,7 @@ catch_up-requires g c =
     record {
       rows = omega (arith, c.as_mut_slice.ensures.len, c.len.ensures, c.if-len-lines.true, c.lines.ensures.value);
       lines = subst (AreLines p.lines) (sym c.as_slice-then-len-lines-2.ensures.value) c.in_ok-changed.ensures.lines;
-      changed = c.as_slice-then-len-lines-2.ensures.value ∙ c.in_ok-changed.ensures.changed
-          ∙ ap (λ (rows : List (List Cell)). renewed c.screen-screen.result.now.origins p.lines rows p.rows) (c.as_slice.ensures.value ∙ sym c.as_mut_slice.ensures.value);
+      numbers = subst (AreNumbered p.rows) (sym c.as_slice-then-len-lines-2.ensures.value) c.in_ok-changed.ensures.numbers;
     }
 
 pub returns-in_ok-changed-clause-gave : goal.returns-in_ok-changed-clause-gave
@@ -34,7 +33,11 @@ returns-in_ok-changed-clause-gave g c = λ profile before after are shows tells.
     let p = c.screen-screen.result.now.picture in
     let was = c.as_slice.ensures.value ∙ are.rows in
     let old_rows = (console_by profile.columns profile.lines before).picture.rows in
-    let changed = c.as_slice-then-len-lines.ensures.value ∙ c.in_ok-changed.ensures.changed
+    let marks : MarksTell c.as_slice.result.now c.screen-screen.result.now.origins p.rows =
+    subst (λ (rows : List (List Cell)). MarksTell rows c.screen-screen.result.now.origins p.rows) (sym was)
+    (subst (λ (q : Picture). MarksTell old_rows c.screen-screen.result.now.origins q.rows) (sym c.screen-screen.ensures.value)
+    (subst (λ (t : List ℕ). MarksTell old_rows t c.args.terminal.now.console.picture.rows) (sym c.screen-screen.ensures.touched) tells)) in
+    let changed = ap (map told) c.as_slice-then-len-lines.ensures.value ∙ c.in_ok-changed.ensures.changed marks
     ∙ ap (λ (rows : List (List Cell)). renewed c.screen-screen.result.now.origins p.lines rows p.rows) was
     ∙ ap₂ (λ (t : List ℕ) (q : Picture). renewed t q.lines old_rows q.rows) c.screen-screen.ensures.touched c.screen-screen.ensures.value in
     subst (Gave g.W.Write.contents c.args.writer.now c.put_entry.new.writer)
@@ -49,13 +52,17 @@ returns-in_ok-changed-clause-keeps g c = λ profile before after are shows tells
     let law = c.size_stays.ensures in
     let was = c.as_mut_slice.ensures.value ∙ are.rows in
     let old_rows = (console_by profile.columns profile.lines before).picture.rows in
-    let told : MarksTell c.as_mut_slice.result.now c.screen-screen.result.now.origins p.rows =
+    let marks : MarksTell c.as_mut_slice.result.now c.screen-screen.result.now.origins p.rows =
     subst (λ (rows : List (List Cell)). MarksTell rows c.screen-screen.result.now.origins p.rows) (sym was)
     (subst (λ (q : Picture). MarksTell old_rows c.screen-screen.result.now.origins q.rows) (sym is)
     (subst (λ (t : List ℕ). MarksTell old_rows t c.args.terminal.now.console.picture.rows) (sym c.screen-screen.ensures.touched) tells)) in
     let wide = wide_by law p c.args.terminal.now profile after c.as_mut_slice.result.now is shows
     (subst (λ rows. AreWide profile.lines profile.columns rows) (sym c.as_mut_slice.ensures.value) are.columns) in
-    let kept = c.catch_up.ensures wide told in
+    let copied = c.as_slice.ensures.value ∙ sym c.as_mut_slice.ensures.value in
+    let changed = ap (map told) c.as_slice-then-len-lines-2.ensures.value
+    ∙ c.in_ok-changed.ensures.changed (subst (λ (rows : List (List Cell)). MarksTell rows c.screen-screen.result.now.origins p.rows) (sym copied) marks)
+    ∙ ap (λ (rows : List (List Cell)). renewed c.screen-screen.result.now.origins p.lines rows p.rows) copied in
+    let kept = c.catch_up.ensures wide marks changed in
     let follows = kept_by law p c.args.terminal.now profile after new is shows kept in
     let long = c.as_mut_slice.ensures.len in
     let old : length c.args.kept.now.items ≡ c.args.kept.now.len = sym (ap length c.as_mut_slice.ensures.value) ∙ long in
