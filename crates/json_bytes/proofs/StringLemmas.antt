@@ -1,5 +1,5 @@
 -- The text of a string, item by item.
-use Rattle.std.proofs.Common.{◌≡◌, ℕ, zero, suc, ◌+◌, ◌-◌, ◌*◌, ◌<◌, ◌≤◌, unwrap_or, nat_le, List, [], ◌∷◌, ◌++◌, length, drop, take, get_or, Bool, true, false, nat_eq, append-nil, Option, Some, None, refl, ap, sym, subst, ◌∙◌, arith, append_assoc}
+use Rattle.std.proofs.Common.{◌≡◌, ℕ, zero, suc, ◌+◌, ◌-◌, ◌*◌, ◌<◌, ◌≤◌, unwrap_or, nat_le, List, [], ◌∷◌, ◌++◌, length, drop, take, get_or, Bool, true, false, ◌&&◌, nat_eq, append-nil, Option, Some, None, refl, ap, sym, subst, ◌∙◌, arith, append_assoc}
 use Rattle.std.specs.List.{prefix_len, starts_with}
 use Rattle.std.specs.Option.{option_map}
 use Rattle.std.proofs.lemmas.Bool.{le-leb}
@@ -7,7 +7,7 @@ use Rattle.std.proofs.lemmas.Str.{encode_ascii}
 use Rattle.std.proofs.lemmas.Bool.Decides.{nat_tests}
 use Rattle.std.proofs.lemmas.List.{take_all}
 use Rattle.json_bytes.specs.Marks.{begins}
-use Rattle.json_bytes.specs.Strings.{alone, bytes_of, character_at, hex_digit, is_high, is_plain, item_at, items, joined, string_at, unit_at, with_front}
+use Rattle.json_bytes.specs.Strings.{alone, bytes_of, character_at, escaped, hex_digit, is_high, is_plain, item_at, items, joined, string_at, unit_at, with_front}
 use Rattle.json_bytes.specs.Values.{behind}
 use Rattle.json_bytes.specs.declared.strings.Meaning.{Meaning}
 use Rattle.json_bytes.specs.declared.strings.Meaning.TheVariants as meaning
@@ -139,6 +139,15 @@ four_bytes : (a b c d : ℕ) (rest : List ℕ) → starts_with nat_eq (a ∷ b �
     → ((a ≡ 92) × (b ≡ 117)) × ((c ≡ 48) × (d ≡ 48))
 four_bytes a b c d rest is = ((grind (arith, nat_tests), grind (arith, nat_tests)), (grind (arith, nat_tests), grind (arith, nat_tests)))
 
+pub first_four : (text : List ℕ) → 4 ≤ length text
+    → (nat_eq (get_or text 0 0) 92 && (nat_eq (get_or text 1 0) 117 && (nat_eq (get_or text 2 0) 48 && nat_eq (get_or text 3 0) 48)))
+    ≡ starts_with nat_eq text (92 ∷ 117 ∷ 48 ∷ 48 ∷ [])
+first_four [] long = absurd (omega arith)
+first_four (a ∷ []) long = absurd (omega arith)
+first_four (a ∷ b ∷ []) long = absurd (omega arith)
+first_four (a ∷ b ∷ c ∷ []) long = absurd (omega arith)
+first_four (a ∷ b ∷ c ∷ d ∷ rest) long = grind (arith, nat_tests)
+
 pub ascii_item : (text : List ℕ) (h l : ℕ) → 6 ≤ length text → starts_with nat_eq text (92 ∷ 117 ∷ 48 ∷ 48 ∷ []) ≡ true
     → hex_digit (get_or text 4 0) ≡ Some h → hex_digit (get_or text 5 0) ≡ Some l → h < 8 → l < 16 → item_at text ≡ Some (meaning.Character (16 * h + l), 6)
 ascii_item [] h l long starts high low small less = absurd (omega arith)
@@ -152,15 +161,15 @@ ascii_item (a ∷ b ∷ c ∷ d ∷ e ∷ f ∷ rest) h l long starts high low s
     rw (are.0.0, are.0.1, are.1.0, are.1.1) (ascii_six e f h l rest high low small less)
 
 -- and what it means in UTF-8
-ascii_bytes : (c : ℕ) → c < 128 → bytes_of (meaning.Character c) ≡ c ∷ []
+pub ascii_bytes : (c : ℕ) → c < 128 → bytes_of (meaning.Character c) ≡ c ∷ []
 ascii_bytes c small = encode_ascii c small
 
--- behind such a unit
-pub ascii_read : (before text : List ℕ) (byte : ℕ) → item_at text ≡ Some (meaning.Character byte, 6) → byte < 128 → 6 ≤ length text → nat_eq (get_or text 0 0) 34 ≡ false
-    → with_front before (items 0 text) ≡ with_front (before ++ byte ∷ []) (items 0 (drop 6 text))
-ascii_read before text byte is small long other =
-    ap (with_front before) (behind_item text (meaning.Character byte) 6 (omega arith) long other is)
-    ∙ fronts before (bytes_of (meaning.Character byte)) (items 0 (drop 6 text)) ∙ ap (λ bytes. with_front (before ++ bytes) (items 0 (drop 6 text))) (ascii_bytes byte small)
+-- behind an item that means a byte
+pub byte_read : (before text : List ℕ) (meaning : Meaning) (byte len : ℕ) → item_at text ≡ Some (meaning, len) → bytes_of meaning ≡ byte ∷ [] → 0 < len
+    → len ≤ length text → nat_eq (get_or text 0 0) 34 ≡ false → with_front before (items 0 text) ≡ with_front (before ++ byte ∷ []) (items 0 (drop len text))
+byte_read before text meaning byte len is means some within other =
+    ap (with_front before) (behind_item text meaning len some within other is)
+    ∙ fronts before (bytes_of meaning) (items 0 (drop len text)) ∙ ap (λ bytes. with_front (before ++ bytes) (items 0 (drop len text))) means
 
 -- so many bytes that stand by themselves, as lanes show them
 one_plain : (n b : ℕ) (bs : List ℕ) (plain : Bool) → is_plain b ≡ plain → suc n ≤ prefix_len is_plain (b ∷ bs)
@@ -200,3 +209,23 @@ lanes_read before text run is few =
 -- a digit from 0 to 7
 pub low_digit : (b : ℕ) → 48 ≤ b → b ≤ 55 → hex_digit b ≡ Some (b - 48)
 low_digit b from to = grind (arith, nat_tests)
+
+-- an escape of two bytes
+escaped_other : (b : ℕ) (same : Bool) (byte : ℕ) → nat_eq b 117 ≡ same → escaped b ≡ Some byte → same ≡ false
+escaped_other b false byte e is = refl
+escaped_other b true byte e is =
+    let here : b ≡ 117 = grind (arith, nat_tests) in
+    let none : escaped 117 ≡ Some byte = subst (λ n. escaped n ≡ Some byte) here is in
+    cc
+
+no_unit : (b : ℕ) (rest : List ℕ) → nat_eq b 117 ≡ false → starts_with nat_eq (92 ∷ b ∷ rest) (92 ∷ 117 ∷ []) ≡ false
+no_unit b rest other = grind (arith, nat_tests)
+
+two_bytes : (b byte : ℕ) (rest : List ℕ) → escaped b ≡ Some byte → item_at (92 ∷ b ∷ rest) ≡ Some (meaning.Byte byte, 2)
+two_bytes b byte rest is = rw (no_unit b rest (escaped_other b (nat_eq b 117) byte refl is), is) refl
+
+pub escaped_item : (text : List ℕ) (byte : ℕ) → 2 ≤ length text → get_or text 0 0 ≡ 92 → escaped (get_or text 1 0) ≡ Some byte
+    → item_at text ≡ Some (meaning.Byte byte, 2)
+escaped_item [] byte long first is = absurd (omega arith)
+escaped_item (a ∷ []) byte long first is = absurd (omega arith)
+escaped_item (a ∷ b ∷ rest) byte long first is = rw first (two_bytes b byte rest is)

@@ -5,7 +5,7 @@ use std::alloc::{AllocError, Global};
 use std::simd::prelude::*;
 
 /// How many bytes are held at most.
-const HELD: usize = 256;
+const HELD: usize = 128;
 
 /// How many are added at a time where that many are at hand.
 pub const LANES: usize = 16;
@@ -16,7 +16,7 @@ pub struct Pieces {
     pub bytes: Vec<u8>,
     pub held: [u8; HELD],
     pub count: usize,
-    ghost few: { count ≤ 256 },
+    ghost few: { count ≤ 128 },
 }
 
 /// Writes lanes over the bytes from a place on.
@@ -45,18 +45,22 @@ impl Pieces {
         }
     }
 
-    /// Whether lanes can be added.
+    /// Makes room for lanes.
     #[inline]
-    pub fn has_room(&self) -> bool
-        ensures { IsTrue result → self.now.count + 16 ≤ 256 }
+    pub fn make_room(&mut self) -> Result<(), AllocError>
+        ensures added { OnOk result (added self.new ≡ added self.old) }
+        ensures room { OnOk result (self.new.count + 16 ≤ 128) }
     {
-        HELD - self.count >= LANES
+        if HELD - self.count < LANES {
+            self.let_in()?;
+        }
+        Ok(())
     }
 
     /// Adds the first so many lanes. The others are written behind them, and don't count.
     #[inline]
     pub fn push_lanes(&mut self, lanes: u8x16, run: usize)
-        requires room { self.old.count + 16 ≤ 256 }
+        requires room { self.old.count + 16 ≤ 128 }
         requires run { run ≤ 16 }
         ensures { added self.new ≡ added self.old ++ take run lanes }
     {

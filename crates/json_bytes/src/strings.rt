@@ -1,9 +1,11 @@
 //! Strings: their text between quotes, and the bytes that it means.
-ghost use Rattle.std.specs.Prelude.{◌≡◌, ℕ, ◌+◌, ◌<◌, ◌≤◌, ◌++◌, IfOk, IfSome, OnOk, length, true};
+ghost use Rattle.std.specs.Prelude.{◌≡◌, ℕ, [], ◌∷◌, ◌+◌, ◌<◌, ◌≤◌, ◌++◌, IfOk, IfSome, OnOk, Some, length, nat_eq, true};
+ghost use Rattle.std.specs.List.{starts_with};
 ghost use Rattle.std.specs.Option.{option_map};
 ghost use Rattle.json_bytes.specs.Strings.{alone, bytes_of, character_at, escaped, hex_at, hex_digit, is_high, is_low, item_at, items, joined, meant, paired, string_at, unit_at, with_front};
 ghost use Rattle.json_bytes.specs.Shown.{added};
 ghost use Rattle.json_bytes.specs.Values.{behind, found, string_of, value};
+ghost use Rattle.json_bytes.specs.declared.strings.Meaning.{Meaning};
 ghost use Rattle.json_bytes.specs.declared.strings.Meaning.TheVariants as meaning;
 
 use crate::marks::begins;
@@ -210,6 +212,16 @@ fn push_meaning(pieces: &mut Pieces, meaning: Meaning) -> Result<(), AllocError>
     }
 }
 
+/// Whether a unit below 256 stands at the front, as far as its first four bytes tell.
+#[inline]
+#[tactic(auto, using(crate::proofs::StringLemmas::first_four))]
+fn begins_low_unit(text: &[u8]) -> bool
+    requires { 4 ≤ length text.now }
+    ensures { result ≡ starts_with nat_eq text.now (92 ∷ 117 ∷ 48 ∷ 48 ∷ []) }
+{
+    (text[0] == b'\\') & (text[1] == b'u') & (text[2] == b'0') & (text[3] == b'0')
+}
+
 /// The character below 128 that is written by its unit at the front, as controls are.
 #[inline]
 fn ascii_at(text: &[u8]) -> Option<u8>
@@ -217,7 +229,7 @@ fn ascii_at(text: &[u8]) -> Option<u8>
     ensures small { IfSome result (λ b. b < 128) }
     ensures within { IfSome result (λ b. 6 ≤ length text.now) }
 {
-    if text.len() < 6 || !text.starts_with(b"\\u00") {
+    if text.len() < 6 || !begins_low_unit(text) {
         return None;
     }
     let high = text[4];
@@ -228,6 +240,32 @@ fn ascii_at(text: &[u8]) -> Option<u8>
     Some((16 * u32::from(high - b'0') + low) as u8)
 }
 
+/// The byte that an escape of two bytes at the front means.
+#[inline]
+fn escaped_at(text: &[u8]) -> Option<u8>
+    ensures value { IfSome result (λ b. item_at text.now ≡ Some (meaning.Byte b, 2)) }
+    ensures within { IfSome result (λ b. 2 ≤ length text.now) }
+{
+    if text.len() < 2 || text[0] != b'\\' {
+        return None;
+    }
+    escaped(text[1])
+}
+
+/// The byte that an escape at the front means, where it means one, and how many bytes say so.
+#[inline]
+fn byte_at(text: &[u8]) -> Option<(u8, usize)>
+    ensures value { IfSome result (λ r. (meaning : Meaning)
+        × (item_at text.now ≡ Some (meaning, r.1)) × (bytes_of meaning ≡ r.0 ∷ [])) }
+    ensures within { IfSome result (λ r. r.1 ≤ length text.now) }
+    ensures some { IfSome result (λ r. 0 < r.1) }
+{
+    if let Some(byte) = ascii_at(text) {
+        return Some((byte, 6));
+    }
+    Some((escaped_at(text)?, 2))
+}
+
 /// How many bytes the item at the front has.
 #[inline]
 fn item_len(text: &[u8]) -> Option<usize>
@@ -236,8 +274,8 @@ fn item_len(text: &[u8]) -> Option<usize>
     ensures within { IfSome result (λ len. len ≤ length text.now) }
     ensures some { IfSome result (λ len. 0 < len) }
 {
-    if ascii_at(text).is_some() {
-        return Some(6);
+    if let Some((_byte, len)) = byte_at(text) {
+        return Some(len);
     }
     Some(item_at(text)?.1)
 }
@@ -258,9 +296,13 @@ fn push_plain<'a>(pieces: &mut Pieces, text: &'a [u8]) -> Result<&'a [u8], Alloc
         ≡ with_front (added pieces.new) (items 0 rest.now)) }
     ensures shorter { IfOk result (λ rest. length rest.now ≤ length text.now) }
 {
+    if begins(b'\\', text) {
+        return Ok(text);
+    }
     let mut rest = text;
     loop {
-        if rest.len() >= LANES && pieces.has_room() {
+        if rest.len() >= LANES {
+            pieces.make_room()?;
             let lanes = u8x16::from_slice(rest);
             let run = plain_lanes(lanes);
             pieces.push_lanes(lanes, run);
@@ -295,9 +337,9 @@ fn push_items<'a>(pieces: &mut Pieces, text: &'a [u8]) -> Result<Option<&'a [u8]
         if *first == b'"' {
             return Ok(Some(behind));
         }
-        if let Some(byte) = ascii_at(rest) {
+        if let Some((byte, len)) = byte_at(rest) {
             pieces.push(byte)?;
-            at = &rest[6..];
+            at = rest.split_at(len).1;
         } else {
             let Some((meaning, len)) = item_at(rest) else {
                 return Ok(None);

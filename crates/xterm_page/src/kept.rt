@@ -447,8 +447,8 @@ fn guess_of(screen: &Screen, line: u16, shift: usize) -> usize
     (line as usize - 1).wrapping_add(shift)
 }
 
-/// By how many lines the rows from a line on have moved: as many as it, if its row was found where it was looked for; else
-/// as many as it, where that is known, or as the row above.
+/// By how many lines the rows from a line on have moved: as many as that line's row, where it is known which line had it,
+/// as it is where the row was found by the guess; else as many as the row above.
 fn shift_by(rows: &[KeptRow], renewed: Renewed, line: u16, guess: usize, shift: usize) -> usize {
     if guess < rows.len() {
         let row = &rows[guess];

@@ -10,18 +10,20 @@ returns-then-run-lt-LANES-clause-pushed c =
     let rest = c.loop-rest.rest.now in
     let run = c.plain_lanes-run.result in
     c.loop-rest.invariant.0
-    ∙ lanes_read (added c.loop-rest.pieces) rest run c.plain_lanes-run.ensures.plain c.plain_lanes-run.ensures.within
+    ∙ ap (λ front. with_front front (items 0 rest)) (sym c.in_ok-make_room.ensures.added)
+    ∙ lanes_read (added c.make_room.new.self) rest run c.plain_lanes-run.ensures.plain c.plain_lanes-run.ensures.within
     ∙ ap (λ front. with_front front (items 0 (drop run rest))) (sym c.push_lanes.ensures)
     ∙ ap (λ text. with_front (added c.push_lanes.new.self) (items 0 text)) (sym c.split_at.ensures.back)
 
-pub loop-rest-preserved-then-has_room : goal.loop-rest-preserved-then-has_room
-loop-rest-preserved-then-has_room c =
+pub loop-rest-preserved-else-run-lt-LANES : goal.loop-rest-preserved-else-run-lt-LANES
+loop-rest-preserved-else-run-lt-LANES c =
     let rest = c.loop-rest.rest.now in
     let run = c.plain_lanes-run.result in
     let shorter = length-drop run rest in
     let behind = ap length c.split_at.ensures.back in (
       c.loop-rest.invariant.0
-          ∙ lanes_read (added c.loop-rest.pieces) rest run c.plain_lanes-run.ensures.plain c.plain_lanes-run.ensures.within
+          ∙ ap (λ front. with_front front (items 0 rest)) (sym c.in_ok-make_room.ensures.added)
+          ∙ lanes_read (added c.make_room.new.self) rest run c.plain_lanes-run.ensures.plain c.plain_lanes-run.ensures.within
           ∙ ap (λ front. with_front front (items 0 (drop run rest))) (sym c.push_lanes.ensures)
           ∙ ap (λ text. with_front (added c.push_lanes.new.self) (items 0 text)) (sym c.split_at.ensures.back),
       omega (arith, c.loop-rest.invariant.1),
