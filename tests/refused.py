@@ -22,6 +22,8 @@ CRATES = [
     "vt_tests",
     "xterm_tests",
     "tape_tests",
+    "session_tests",
+    "check_tests",
     "import_tests",
     "seek_tests",
     "print_tests",

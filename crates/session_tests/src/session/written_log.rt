@@ -1,9 +1,9 @@
-use crate::devices::{Writing, small_writer};
 use std::alloc::Global;
 use std::process::Abort;
 use std::test::Fail;
 use tape_core::Watched;
 use tape_seek::{Edit, Request, read_line, write_log};
+use tape_tests::devices::{Writing, small_writer};
 
 /// The edits that the lines ask for.
 fn edits_of(alloc: Global, lines: &[&[u8]]) -> Result<Vec<Edit>, Fail> {

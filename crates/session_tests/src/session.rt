@@ -15,18 +15,6 @@ mod requests;
 mod rows;
 mod written_log;
 
-/// A call of a session.
-#[derive(Clone, Copy, Debug)]
-enum Call<'a> {
-    /// What a request line asks for.
-    Line(&'a [u8]),
-    /// A seek of so many chunks.
-    Count(usize),
-}
-
-/// A call, its answer, and after it frontier, head and held().
-type Row<'a> = (Call<'a>, &'a str, (usize, usize, usize));
-
 /// A chunk's delay in seconds, and its bytes.
 type Timed<'a> = (&'a str, &'a [u8]);
 
@@ -143,27 +131,36 @@ fn told_of_line(alloc: Global, session: &mut Session, line: &[u8]) -> Result<Str
     }
 }
 
-fn told(alloc: Global, session: &mut Session, call: Call<'_>) -> Result<String, Fail> {
-    match call {
-        Call::Line(line) => told_of_line(alloc, session, line),
-        Call::Count(count) if count <= session.recording().chunks().len() => {
-            told_of_view(alloc, &session.seek_count(count)?)
-        }
-        Call::Count(_) => Ok(format!(in alloc; "past the end")?),
+fn told_of_count(alloc: Global, session: &mut Session, count: usize) -> Result<String, Fail> {
+    if count <= session.recording().chunks().len() {
+        told_of_view(alloc, &session.seek_count(count)?)
+    } else {
+        Ok(format!(in alloc; "past the end")?)
     }
 }
 
-/// Makes the calls in turn, and compares what they answer and leave.
+/// What a call answers: `seek COUNT`, or what a request line asks for.
+fn told(alloc: Global, session: &mut Session, call: &str) -> Result<String, Fail> {
+    match call.strip_prefix("seek ") {
+        Some(count) => told_of_count(alloc, session, count.parse()?),
+        None => told_of_line(alloc, session, call.as_bytes()),
+    }
+}
+
+/// Makes the calls in turn, and compares what they answer and leave: a row is a call, its answer, and after it frontier,
+/// head and held().
 fn compare(
     rt: &impl Abort,
     alloc: Global,
     session: &mut Session,
-    rows: &[Row<'_>],
+    rows: &[&str],
 ) -> Result<(), Fail> {
-    for (call, answer, left) in rows {
-        let text = told(alloc, session, *call)?;
-        let marks = (session.frontier(), session.head(), session.held());
-        assert_eq!(rt; (text.as_str(), marks), (*answer, *left), "of {call:?}");
+    for row in rows {
+        let (call, _) = row.split_once(" | ").unwrap_or((row, ""));
+        let answer = told(alloc, session, call)?;
+        let (frontier, head, held) = (session.frontier(), session.head(), session.held());
+        let left = format!(in alloc; "{call} | {answer} | {frontier} {head} {held}")?;
+        assert_eq!(rt; left.as_str(), *row);
     }
     Ok(())
 }

@@ -1,12 +1,12 @@
 //! Refused growths. `tests/refused.py` runs these with the first, second, .. growth of memory refused, until none is, and
 //! counts the lines `refused: WHAT`. After a refusal nothing has gone out, and the same call then answers.
-use crate::once_more::read;
 use std::alloc::Global;
 use std::process::Abort;
 use std::rt::Runtime;
 use std::test::Fail;
 use tape_check::{CheckFault, PlayedAs, write_check};
 use tape_core::{Recording, Watched};
+use tape_tests::once_more::read;
 use vt_term::Profile;
 
 /// Unplayed sequences, more than fit where the first ones are counted.

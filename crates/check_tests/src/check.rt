@@ -1,13 +1,13 @@
 //! Lines of a check: what a recording says of itself, and what its terminal can't show of it.
 
-use crate::devices::{Writing, small_writer};
-use crate::once_more::read;
 use std::alloc::Global;
 use std::process::Abort;
 use std::rt::Runtime;
 use std::test::Fail;
 use tape_check::{CheckFault, PlayedAs, put_parts, write_check};
 use tape_core::{Fault, Recording, Watched};
+use tape_tests::devices::{Writing, small_writer};
+use tape_tests::once_more::read;
 use vt_term::Profile;
 
 mod refused;

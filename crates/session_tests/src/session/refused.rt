@@ -1,12 +1,12 @@
 //! Refused growths. `tests/refused.py` runs these with the first, second, .. growth of memory refused, until none is, and
 //! counts the lines `refused: WHAT`. After a refusal all is as before, and the same call then answers.
-use crate::once_more::{bytes, read};
 use std::alloc::{AllocError, Global};
 use std::process::Abort;
 use std::rt::Runtime;
 use std::test::Fail;
 use tape_core::Recording;
 use tape_seek::{Edit, EditFault, LineFault, Refused, Request, Session, read_line};
+use tape_tests::once_more::{bytes, read};
 
 /// All that a session tells of itself, the recording by its numbers and a checksum.
 #[derive(Clone, Copy, Debug, PartialEq, Eq)]
