@@ -1,3 +1,2 @@
 mod JsonLemmas
 mod CastLemmas
-mod TextLemmas

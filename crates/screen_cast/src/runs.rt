@@ -1,74 +1,83 @@
-//! Runs of a row, laid out as they stand in a string of JSON.
+//! Runs of a row, written as they stand in a string of JSON.
 
-ghost use Rattle.std.specs.Prelude.{◌≡◌, ◌≤◌, ◌+◌, ◌*◌, ◌++◌, [], length};
+ghost use Rattle.std.specs.Prelude.{◌≡◌, length};
 ghost use Rattle.std.specs.List.{flat_map};
+ghost use Rattle.held.specs.Held.{Wrote};
 ghost use Rattle.screen_print.specs.EscapedText.{rendition_set_text};
 ghost use Rattle.screen_rows.specs.Plain.{glyphs_of};
-ghost use Rattle.screen_rows.specs.Runs.{IsRun, cells_of};
+ghost use Rattle.screen_rows.specs.Runs.{IsRun, cells_of, runs_of};
+ghost use Rattle.screen_rows.specs.Texts.{text_where};
 ghost use Rattle.screen_cast.specs.Drawn.{attributes_in, cell_text, is_either};
 ghost use Rattle.screen_cast.specs.Json.{json};
-ghost use Rattle.screen_cast.specs.Parts.{run_part, runs_part};
+ghost use Rattle.screen_cast.specs.Parts.{run_part};
 
-use crate::json::push_glyph;
+use crate::json::put_glyph;
 use arrayvec::ArrayVec;
-use screen_rows::{
-    CELLS, Kind, Run, are_plain, cells_of, glyphs_of, glyphs_of_run, inked, push_bytes,
-    push_bytes_where, run_at,
-};
+use held::{HELD, put, put_byte};
+use screen_rows::{CELLS, Kind, Run, are_plain, cells_of, glyphs_of, glyphs_of_run, inked, run_at};
+use std::io::Write;
+use tape_core::Watched;
 use vt_screen::limits::WIDE_COLUMNS;
 use vt_screen::{Cell, Row, Size};
 
-/// How many bytes the runs of a row take at most: for each of 132 cells 17 of SGR, three of a character, and a space.
-pub(crate) const RUNS_BYTES: usize = 2772;
-
-/// The runs of a row.
-pub(crate) fn push_runs(text: &mut ArrayVec<u8, RUNS_BYTES>, reversed: bool, row: &Row)
+/// Writes the runs of a row.
+pub(crate) fn put_runs<W: Write>(
+    reversed: bool,
+    row: &Row,
+    held: &mut ArrayVec<u8, HELD>,
+    writer: &mut Watched<W>,
+)
     requires whole { length row.now.cells ≡ WIDE_COLUMNS }
-    requires none { text.old.items ≡ [] }
-    ensures { text.new.items ≡ runs_part reversed row.now }
+    ensures { Wrote W.contents writer.old held.old.items writer.new held.new.items
+        (flat_map (run_part reversed row.now) (runs_of row.now)) }
 {
     let glyphs = glyphs_of(row);
     let cells = inked(&row.cells);
     let mut before = 0;
     while before < cells.len() {
         let run = run_at(cells, before);
-        push_run(text, reversed, row, &glyphs, run);
+        put_run(reversed, row, &glyphs, run, held, writer);
         before += usize::from(run.len);
     }
 }
 
-/// A run of a row, of which the glyphs are known: SGR, and its characters.
-fn push_run(
-    text: &mut ArrayVec<u8, RUNS_BYTES>,
+/// Writes a run of a row, of which the glyphs are known: SGR, and its characters.
+#[tactic(auto, unfolding(crate::specs::Json::json))]
+fn put_run<W: Write>(
     reversed: bool,
     row: &Row,
     glyphs: &[u8; CELLS],
     run: Run,
+    held: &mut ArrayVec<u8, HELD>,
+    writer: &mut Watched<W>,
 )
     requires whole { length row.now.cells ≡ WIDE_COLUMNS }
     requires glyphs { glyphs.now ≡ glyphs_of row.now.cells }
     requires run { IsRun run }
-    requires room { length text.old.items + 21 * run.len ≤ RUNS_BYTES }
-    ensures text { text.new.items ≡ text.old.items ++ run_part reversed row.now run }
-    ensures short { length text.new.items ≤ length text.old.items + 21 * run.len }
+    ensures { Wrote W.contents writer.old held.old.items writer.new held.new.items
+        (run_part reversed row.now run) }
 {
-    push_rendition(text, reversed, run.kind);
-    push_text(text, row, glyphs, run);
+    put_rendition(reversed, run.kind, held, writer);
+    put_text(row, glyphs, run, held, writer);
 }
 
-/// SGR.
-fn push_rendition(text: &mut ArrayVec<u8, RUNS_BYTES>, reversed: bool, kind: Kind)
-    requires room { length text.old.items + 17 ≤ RUNS_BYTES }
-    ensures text { text.new.items
-        ≡ text.old.items ++ json (rendition_set_text (attributes_in reversed kind)) }
-    ensures short { length text.new.items ≤ length text.old.items + 17 }
+/// Writes SGR.
+#[tactic(auto, unfolding(crate::specs::Json::json))]
+fn put_rendition<W: Write>(
+    reversed: bool,
+    kind: Kind,
+    held: &mut ArrayVec<u8, HELD>,
+    writer: &mut Watched<W>,
+)
+    ensures { Wrote W.contents writer.old held.old.items writer.new held.new.items
+        (json (rendition_set_text (attributes_in reversed kind))) }
 {
-    push_bytes(text, b"\\u001b[0");
-    push_bytes_where(text, kind.bold, b";1");
-    push_bytes_where(text, kind.underscore, b";4");
-    push_bytes_where(text, kind.blink, b";5");
-    push_bytes_where(text, is_either(reversed, kind.reverse), b";7");
-    text.push(b'm');
+    put(b"\\u001b[0", held, writer);
+    put_where(kind.bold, b";1", held, writer);
+    put_where(kind.underscore, b";4", held, writer);
+    put_where(kind.blink, b";5", held, writer);
+    put_where(is_either(reversed, kind.reverse), b";7", held, writer);
+    put_byte(b'm', held, writer);
 }
 
 /// Whether one of two is so, and not both.
@@ -78,42 +87,73 @@ fn is_either(one: bool, other: bool) -> bool
     one != other
 }
 
-/// The characters of a run: at once where each stands for itself.
-fn push_text(text: &mut ArrayVec<u8, RUNS_BYTES>, row: &Row, glyphs: &[u8; CELLS], run: Run)
+/// Writes bytes, or none.
+fn put_where<W: Write>(
+    holds: bool,
+    bytes: &[u8],
+    held: &mut ArrayVec<u8, HELD>,
+    writer: &mut Watched<W>,
+)
+    ensures { Wrote W.contents writer.old held.old.items writer.new held.new.items
+        (text_where holds bytes.now) }
+{
+    if holds {
+        put(bytes, held, writer);
+    }
+}
+
+/// Writes the characters of a run: at once where each stands for itself.
+#[tactic(auto, unfolding(crate::specs::Json::json))]
+fn put_text<W: Write>(
+    row: &Row,
+    glyphs: &[u8; CELLS],
+    run: Run,
+    held: &mut ArrayVec<u8, HELD>,
+    writer: &mut Watched<W>,
+)
     requires whole { length row.now.cells ≡ WIDE_COLUMNS }
     requires glyphs { glyphs.now ≡ glyphs_of row.now.cells }
     requires run { IsRun run }
-    requires room { length text.old.items + 4 * run.len ≤ RUNS_BYTES }
-    ensures text { text.new.items ≡ text.old.items
-        ++ json (flat_map (cell_text row.now.size) (cells_of row.now run)) }
-    ensures short { length text.new.items ≤ length text.old.items + 4 * run.len }
+    ensures { Wrote W.contents writer.old held.old.items writer.new held.new.items
+        (json (flat_map (cell_text row.now.size) (cells_of row.now run))) }
 {
     let bytes = glyphs_of_run(glyphs, run);
     if row.size.is_single() && are_plain(bytes) {
-        push_bytes(text, bytes);
+        put(bytes, held, writer);
     } else {
-        push_cells(text, row.size, cells_of(row, run));
+        put_cells(row.size, cells_of(row, run), held, writer);
     }
 }
 
-/// The characters of cells on a line of this size.
-fn push_cells(text: &mut ArrayVec<u8, RUNS_BYTES>, size: Size, cells: &[Cell])
-    requires room { length text.old.items + 4 * length cells.now ≤ RUNS_BYTES }
-    ensures text { text.new.items
-        ≡ text.old.items ++ json (flat_map (cell_text size) cells.now) }
-    ensures short { length text.new.items ≤ length text.old.items + 4 * length cells.now }
+/// Writes the characters of cells on a line of this size.
+#[tactic(auto, unfolding(crate::specs::Json::json))]
+fn put_cells<W: Write>(
+    size: Size,
+    cells: &[Cell],
+    held: &mut ArrayVec<u8, HELD>,
+    writer: &mut Watched<W>,
+)
+    ensures { Wrote W.contents writer.old held.old.items writer.new held.new.items
+        (json (flat_map (cell_text size) cells.now)) }
 {
     for cell in cells {
-        push_cell(text, size, *cell);
+        put_cell(size, *cell, held, writer);
     }
 }
 
-/// The character of a cell, and a space behind it on the double sizes.
-fn push_cell(text: &mut ArrayVec<u8, RUNS_BYTES>, size: Size, cell: Cell)
-    requires room { length text.old.items + 4 ≤ RUNS_BYTES }
-    ensures text { text.new.items ≡ text.old.items ++ json (cell_text size cell) }
-    ensures short { length text.new.items ≤ length text.old.items + 4 }
+/// Writes the character of a cell, and a space behind it on the double sizes.
+#[tactic(auto, unfolding(crate::specs::Json::json))]
+fn put_cell<W: Write>(
+    size: Size,
+    cell: Cell,
+    held: &mut ArrayVec<u8, HELD>,
+    writer: &mut Watched<W>,
+)
+    ensures { Wrote W.contents writer.old held.old.items writer.new held.new.items
+        (json (cell_text size cell)) }
 {
-    push_glyph(text, cell.glyph);
-    push_bytes_where(text, !size.is_single(), b" ");
+    put_glyph(cell.glyph, held, writer);
+    if !size.is_single() {
+        put_byte(b' ', held, writer);
+    }
 }
