@@ -3,10 +3,10 @@ pub mod FrontLemmas
 pub mod ListedLemmas
 mod MarkLemmas
 pub mod MemberLemmas
-mod NumberLemmas
+pub mod NumberLemmas
 mod PieceLemmas
 mod PlainLemmas
-mod ScalarLemmas
+pub mod ScalarLemmas
 pub mod StringFronts
 mod StringLemmas
 mod TripleLemmas

@@ -230,6 +230,18 @@ prefix_digits text = λ i e lt.
     let within : i < prefix_len is_ascii_digit text = omega (arith, len) in
     rw (get_or-take (prefix_len is_ascii_digit text) text i e within) (prefix_len_passes is_ascii_digit text i e within)
 
+-- a zero at the front
+abbrev pub IsNought : List ℕ → Type 0
+IsNought text = (1 ≤ length text) × (min greatest (digits_value 10 (take 1 text)) ≡ 0) × AllPass is_ascii_digit (take 1 text)
+
+nought_alone : AllPass is_ascii_digit (48 ∷ [])
+nought_alone zero e lt = refl
+nought_alone (suc i) e lt = absurd (omega arith)
+
+pub nought_first : (text : List ℕ) → begins 48 text ≡ true → IsNought text
+nought_first [] is = cc
+nought_first (b ∷ bs) is = subst (λ n. IsNought (n ∷ bs)) (sym (first_byte 48 b bs is)) (omega arith, refl, nought_alone)
+
 -- a number of digits alone
 no_minus_by : (b : ℕ) (bs : List ℕ) (minus : Bool) → begins 45 (b ∷ bs) ≡ minus → 0 < whole_len (b ∷ bs) → begins 45 (b ∷ bs) ≡ false
 no_minus_by b bs false is some = is

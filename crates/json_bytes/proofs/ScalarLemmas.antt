@@ -1,11 +1,14 @@
 -- Numbers and strings as values.
-use Rattle.std.proofs.Common.{◌≡◌, ℕ, zero, suc, Bool, List, drop, true, false, Option, Some, None, refl}
+use Rattle.std.proofs.Common.{◌≡◌, ℕ, zero, suc, Bool, List, drop, take, true, false, Option, Some, None, refl, ap, ◌∙◌, unwrap_or}
 use Rattle.std.specs.List.{starts_with}
+use Rattle.std.specs.Option.{option_and_then}
 use Rattle.json_bytes.specs.Marks.{begins}
-use Rattle.json_bytes.specs.Numbers.{Decimal, number_at}
+use Rattle.json_bytes.specs.Numbers.{Decimal, number_at, plain_digits}
+use Rattle.json_bytes.specs.Listed.{standing}
+use Rattle.json_bytes.specs.Shown.{IsPlain, alone}
 use Rattle.json_bytes.specs.Strings as strings
 use Rattle.json_bytes.specs.Strings.{string_at}
-use Rattle.json_bytes.specs.Values.{Items, Json, Members, Read, array, array_at, as_part, found, nested_at, number_of, object, object_at, other_value, string, string_of, value, value_with, word_at}
+use Rattle.json_bytes.specs.Values.{Items, Json, Members, Read, array, array_at, as_part, boolean, found, nested_at, null, number, number_of, object, object_at, other_value, string, string_of, value, value_with, word_at}
 use Rattle.json_bytes.proofs.MemberLemmas.{quote_alone, word_by}
 use Rattle.std.proofs.Common.{codes, nat_eq}
 
@@ -63,3 +66,21 @@ pub value_read : (depth : ℕ) (text : List ℕ) → IsRead text (value depth te
 unfolding value
 value_read zero text = read_by word_at text (begins 34 text) refl (word_alone text)
 value_read (suc depth) text = read_by (nested_at (value depth)) text (begins 34 text) refl (nested_alone (value depth) text)
+
+-- a number of digits alone
+pub plain_read : (text : List ℕ) (count len : ℕ) → IsPlain text count len → (depth : ℕ)
+    → option_and_then plain_digits (number_of (found (value depth text))) ≡ Some (take len text)
+plain_read text count len is depth = ap (option_and_then plain_digits) ((value_read depth text).0 ∙ ap found is.number)
+
+is_number : (v : Option Json) (found : Decimal) → number_of v ≡ Some found → unwrap_or v null ≡ number found
+is_number None found is = cc
+is_number (Some null) found is = cc
+is_number (Some (boolean b)) found is = cc
+is_number (Some (number n)) found is = let same : n ≡ found = cc in ap number same
+is_number (Some (string s)) found is = cc
+is_number (Some (array values)) found is = cc
+is_number (Some (object all)) found is = cc
+
+pub plain_stands : (text : List ℕ) (count len : ℕ) → IsPlain text count len → (depth : ℕ)
+    → standing depth text ≡ number (alone (take len text) (drop len text))
+plain_stands text count len is depth = is_number (found (value depth text)) _ ((value_read depth text).0 ∙ ap found is.number)

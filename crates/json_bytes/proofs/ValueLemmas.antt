@@ -1,11 +1,12 @@
 -- Values between brackets and braces.
-use Rattle.std.proofs.Common.{◌≡◌, ℕ, zero, suc, ◌+◌, ◌-◌, ◌<◌, List, drop, length, true, false, Option, Some, None, refl, ap, ◌∙◌, arith}
+use Rattle.std.proofs.Common.{◌≡◌, ℕ, zero, suc, ◌+◌, ◌-◌, ◌<◌, List, drop, length, true, false, Option, Some, None, refl, ap, ◌∙◌, arith, unwrap_or}
 use Rattle.std.specs.Option.{option_and_then}
+use Rattle.json_bytes.specs.Listed.{standing}
 use Rattle.json_bytes.specs.Marks.{begins, past_mark}
 use Rattle.json_bytes.specs.Numbers.{Decimal, number_at}
 use Rattle.json_bytes.specs.Strings as strings
 use Rattle.json_bytes.specs.Strings.{string_at}
-use Rattle.json_bytes.specs.Values.{Items, Json, Members, Read, array, array_at, as_part, behind, item, items, member, members, named_value, nested_at, object, object_at, other_value, rest_of_items, rest_of_members, string, value, word_at}
+use Rattle.json_bytes.specs.Values.{Items, Json, Members, Read, array, array_at, as_part, behind, found, item, items, member, members, named_value, nested_at, null, object, object_at, other_value, rest_of_items, rest_of_members, string, value, word_at}
 
 -- what stands behind isn't changed by what is made of what was read
 pub same_behind : {A B : Type 0} (f : A → B) (read : Read A) → behind (as_part f read) ≡ behind read
@@ -97,6 +98,13 @@ pub value_number : (depth : ℕ) (text rest : List ℕ) → begins 34 text ≡ f
 unfolding value
 value_number zero text rest other is = rw other (a_number word_at text rest (number_at text) is)
 value_number (suc depth) text rest other is = rw other (a_number (nested_at (value depth)) text rest (number_at text) is)
+
+read_by : (read : Read Json) (rest : List ℕ) → behind read ≡ Some rest → Some (unwrap_or (found read) null, rest) ≡ read
+read_by None rest is = cc
+read_by (Some r) rest is = let same : rest ≡ r.1 = cc in ap (λ t. Some (r.0, t)) same
+
+pub number_stands : (depth : ℕ) (text rest : List ℕ) → begins 34 text ≡ false → behind (number_at text) ≡ Some rest → Some (standing depth text, rest) ≡ value depth text
+number_stands depth text rest other is = read_by (value depth text) rest (value_number depth text rest other is)
 
 pub value_word : (depth : ℕ) (text : List ℕ) → depth ≡ 0 → begins 34 text ≡ false → behind (number_at text) ≡ None
     → behind (value depth text) ≡ behind (word_at text)

@@ -11,9 +11,10 @@ use Rattle.json_bytes.specs.declared.values.ReadValue.TheVariants as read
 abbrev pub standing : ℕ → List ℕ → Json
 standing depth text = unwrap_or (found (value depth text)) null
 
--- A value that was read: a string by its bytes, any other by its place.
+-- A value that was read: a string by its bytes, a number of digits alone and any other value by its place.
 abbrev pub valued : ℕ → ReadValue → Json
 valued depth (read.Text bytes) = string (meant bytes)
+valued depth (read.Plain number) = standing depth number.place.now
 valued depth (read.Other place) = standing depth place.now
 
 -- The members that were read.

@@ -1,9 +1,9 @@
 -- Private: what the parts of a number show, and how it is scaled.
-use Rattle.std.specs.Prelude.{ℕ, ◌+◌, ◌-◌, false, List, [], ◌++◌, drop, length, min, take}
+use Rattle.std.specs.Prelude.{ℕ, ◌≡◌, ◌≤◌, ◌+◌, ◌-◌, false, List, [], ◌++◌, drop, length, min, take, Some}
 use Rattle.std.specs.Char.{is_ascii_digit}
 use Rattle.std.specs.List.{AllPass}
 use Rattle.json_bytes.specs.Marks.{begins}
-use Rattle.json_bytes.specs.Numbers.{Decimal, lowers, raises}
+use Rattle.json_bytes.specs.Numbers.{Decimal, IsCounted, lowers, number_at, raises}
 use Rattle.json_bytes.specs.declared.numbers.Parts.{Parts}
 use Rattle.json_bytes.specs.declared.pieces.Pieces.{Pieces}
 
@@ -21,6 +21,12 @@ shown parts = record {
 abbrev pub alone : List ℕ → List ℕ → Decimal
 alone digits rest =
     record { negative = false; whole = digits; fraction = []; falls = begins 45 (drop 1 rest); exponent = [] }
+
+-- The number at the front is so many digits alone, which write this.
+pub record IsPlain (text : List ℕ) (count len : ℕ) : Type 0 where
+  pub number : number_at text ≡ Some (alone (take len text) (drop len text), drop len text)
+  pub counted : IsCounted (take len text) count len
+  pub within : len ≤ length text
 
 -- The bytes that were added one after another.
 abbrev pub added : Pieces → List ℕ

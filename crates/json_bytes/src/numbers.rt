@@ -7,7 +7,7 @@ ghost use Rattle.std.specs.Str.Parse.{digits_value, digits_value_after};
 ghost use Rattle.json_bytes.specs.Arrays.{byte_at, byte_of};
 ghost use Rattle.json_bytes.specs.Marks.{begins};
 ghost use Rattle.json_bytes.specs.Numbers.{IsCounted, decimal_at, digits_len, digits_of, exponent_of, fraction_of, greatest, lowers, number_at, past_digits, past_exponent, past_fraction, past_minus, past_sign, plain_digits, raises, scaled, whole_len};
-ghost use Rattle.json_bytes.specs.Shown.{IsOfDigits, alone, kept_digits, kept_zeros, shown};
+ghost use Rattle.json_bytes.specs.Shown.{IsOfDigits, IsPlain, kept_digits, kept_zeros, shown};
 ghost use Rattle.json_bytes.specs.Values.{as_part, behind, found, number_of, value};
 
 use crate::marks::begins;
@@ -25,12 +25,33 @@ struct Parts<'a> {
     exponent: &'a [u8],
 }
 
-/// How many digits a text begins with.
-fn digits_len(text: &[u8]) -> usize
-    ensures digits { result ≡ digits_len text.now }
-    ensures within { result ≤ length text.now }
+/// A number of digits alone: where it stands in a text, what its digits write, and how many they are; one above 10^18
+/// counts as 10^18.
+#[derive(Clone, Copy)]
+pub struct PlainNumber<'a> {
+    pub place: &'a [u8],
+    pub count: u64,
+    pub len: usize,
+    ghost plain: { IsPlain place.now count len },
+}
+
+/// The number that the digits at the front write, and how many they are; one above 10^18 counts as 10^18.
+#[inline]
+pub fn count_digits(text: &[u8]) -> (u64, usize)
+    ensures count { result.0 ≡ min greatest (digits_value 10 (digits_of text.now)) }
+    ensures len { result.1 ≡ digits_len text.now }
+    ensures within { result.1 ≤ length text.now }
 {
-    text.iter().take_while(|b| b.is_ascii_digit()).count()
+    let mut count: u64 = 0;
+    let mut len = 0;
+    for b in text {
+        if !b.is_ascii_digit() {
+            return (count, len);
+        }
+        count = (count * 10 + u64::from(*b - b'0')).min(GREATEST);
+        len += 1;
+    }
+    (count, len)
 }
 
 /// The digits at the front, and what stands behind them.
@@ -39,7 +60,7 @@ pub fn split_digits(text: &[u8]) -> (&[u8], &[u8])
     ensures rest { result.1.now ≡ past_digits text.now }
     ensures all { AllPass is_ascii_digit result.0.now }
 {
-    text.split_at(digits_len(text))
+    text.split_at(count_digits(text).1)
 }
 
 /// A text without the minus at its front.
@@ -60,17 +81,28 @@ fn past_sign(text: &[u8]) -> &[u8]
     }
 }
 
+/// The number that the whole digits at the front write, and how many they are; one above 10^18 counts as 10^18.
+#[inline]
+fn count_whole(text: &[u8]) -> (u64, usize)
+    ensures count { result.0 ≡ min greatest (digits_value 10 (take (whole_len text.now) text.now)) }
+    ensures len { result.1 ≡ whole_len text.now }
+    ensures all { AllPass is_ascii_digit (take result.1 text.now) }
+    ensures within { result.1 ≤ length text.now }
+{
+    if begins(b'0', text) {
+        (0, 1)
+    } else {
+        count_digits(text)
+    }
+}
+
 /// The whole digits at the front, and what stands behind them.
 fn split_whole(text: &[u8]) -> (&[u8], &[u8])
     ensures digits { result.0.now ≡ take (whole_len text.now) text.now }
     ensures rest { result.1.now ≡ drop (whole_len text.now) text.now }
     ensures all { AllPass is_ascii_digit result.0.now }
 {
-    if begins(b'0', text) {
-        text.split_at(1)
-    } else {
-        split_digits(text)
-    }
+    text.split_at(count_whole(text).1)
 }
 
 /// The digits of a fraction at the front, and what stands behind it.
@@ -254,19 +286,48 @@ fn byte_of(number: &Parts) -> Option<u8>
     }
 }
 
-/// The number at the front, where its text is digits alone, and what stands behind it.
+/// Whether a number whose whole digits this stands behind ends with them.
 #[inline]
-#[tactic(auto, using(crate::proofs::NumberLemmas::digits_alone))]
-fn split_plain(text: &[u8]) -> Option<(&[u8], &[u8])>
-    ensures number { IfSome result (λ r. number_at text.now ≡ Some (alone r.0.now r.1.now, r.1.now)) }
-    ensures digits { IfSome result (λ r. AllPass is_ascii_digit r.0.now) }
-    ensures some { IfSome result (λ r. 0 < length r.0.now) }
+fn is_end(rest: &[u8]) -> bool
+    ensures { result ≡ true → (begins 46 rest.now ≡ false) × (begins 101 rest.now ≡ false)
+        × (begins 69 rest.now ≡ false) }
 {
-    let (digits, rest) = split_whole(text);
-    if digits.is_empty() || begins(b'.', rest) || begins(b'e', rest) || begins(b'E', rest) {
-        return None;
+    !(begins(b'.', rest) || begins(b'e', rest) || begins(b'E', rest))
+}
+
+impl<'a> PlainNumber<'a> {
+    /// Its digits.
+    #[inline]
+    pub fn digits(self) -> &'a [u8]
+        ensures { result.now ≡ take self.entry.len self.entry.place.now }
+    {
+        self.place.split_at(self.len).0
     }
-    Some((digits, rest))
+
+    /// What stands behind it.
+    #[inline]
+    pub fn behind(self) -> &'a [u8]
+        ensures { result.now ≡ drop self.entry.len self.entry.place.now }
+    {
+        self.place.split_at(self.len).1
+    }
+}
+
+/// The number at the front, where its text is digits alone.
+#[inline]
+pub fn plain_at(text: &[u8]) -> Option<PlainNumber<'_>>
+    ensures { IfSome result (λ number. number.place.now ≡ text.now) }
+{
+    let (count, len) = count_whole(text);
+    if len > 0 && is_end(text.split_at(len).1) {
+        Some(PlainNumber {
+            place: text,
+            count,
+            len,
+        })
+    } else {
+        None
+    }
 }
 
 /// What stands behind the number at the front.
@@ -274,8 +335,8 @@ fn split_plain(text: &[u8]) -> Option<(&[u8], &[u8])>
 pub fn number_end(text: &[u8]) -> Option<&[u8]>
     ensures { option_map (λ r. r.now) result ≡ behind (number_at text.now) }
 {
-    if let Some((_digits, rest)) = split_plain(text) {
-        return Some(rest);
+    if let Some(number) = plain_at(text) {
+        return Some(number.behind());
     }
     Some(number_at(text)?.1)
 }
@@ -288,39 +349,11 @@ pub fn plain_digits(text: &[u8]) -> Option<&[u8]>
     ensures all { IfSome result (λ digits. AllPass is_ascii_digit digits.now) }
     ensures some { IfSome result (λ digits. 0 < length digits.now) }
 {
-    if let Some((digits, _rest)) = split_plain(text) {
-        return Some(digits);
+    if let Some(number) = plain_at(text) {
+        return Some(number.digits());
     }
     let (number, _rest) = number_at(text)?;
     whole_digits(&number)
-}
-
-/// The number that the digits at the front write, and how many they are; one above 10^18 counts as 10^18.
-#[inline]
-fn count_digits(text: &[u8]) -> (u64, usize)
-    ensures count { result.0 ≡ min greatest (digits_value 10 (digits_of text.now)) }
-    ensures len { result.1 ≡ digits_len text.now }
-    ensures within { result.1 ≤ length text.now }
-{
-    let mut count: u64 = 0;
-    let mut len = 0;
-    for b in text {
-        if !b.is_ascii_digit() {
-            return (count, len);
-        }
-        count = (count * 10 + u64::from(*b - b'0')).min(GREATEST);
-        len += 1;
-    }
-    (count, len)
-}
-
-/// Whether a number has digits alone that doesn't begin with a zero and that this stands behind.
-#[inline]
-fn is_alone(text: &[u8], rest: &[u8]) -> bool
-    ensures { result ≡ true → (begins 48 text.now ≡ false) × (begins 46 rest.now ≡ false)
-        × (begins 101 rest.now ≡ false) × (begins 69 rest.now ≡ false) }
-{
-    !(begins(b'0', text) || begins(b'.', rest) || begins(b'e', rest) || begins(b'E', rest))
 }
 
 /// What the digits write of the number that stands at the front as a value, where its text is digits alone, and how many
@@ -331,9 +364,8 @@ pub fn plain_count(text: &[u8]) -> Option<(u64, usize)>
         (λ r. (digits : List ℕ) × IsCounted digits r.0 r.1 × ((depth : ℕ)
         → option_and_then plain_digits (number_of (found (value depth text.now))) ≡ Some digits)) }
 {
-    let (count, len) = count_digits(text);
-    if len > 0 && is_alone(text, text.split_at(len).1) {
-        return Some((count, len));
+    if let Some(number) = plain_at(text) {
+        return Some((number.count, number.len));
     }
     let digits = plain_digits(text)?;
     Some((capped(0, digits), digits.len()))

@@ -56,11 +56,14 @@ fn hex_digit(b: u8) -> Option<u32>
     ensures value { result ≡ hex_digit b }
     ensures small { IfSome result (λ n. n < 16) }
 {
-    match b {
-        b'0'..=b'9' => Some(u32::from(b - b'0')),
-        b'a'..=b'f' => Some(u32::from(b - b'a') + 10),
-        b'A'..=b'F' => Some(u32::from(b - b'A') + 10),
-        _ => None,
+    if b.is_ascii_digit() {
+        Some(u32::from(b - b'0'))
+    } else if (b'a'..=b'f').contains(&b) {
+        Some(u32::from(b - b'a') + 10)
+    } else if (b'A'..=b'F').contains(&b) {
+        Some(u32::from(b - b'A') + 10)
+    } else {
+        None
     }
 }
 

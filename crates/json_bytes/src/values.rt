@@ -9,7 +9,7 @@ ghost use Rattle.json_bytes.specs.Strings.{meant};
 ghost use Rattle.json_bytes.specs.Values.{array_at, behind, found, json_of, member_of, nested_at, number_of, object_at, string_of, triple_of, tripled, value, word_at};
 
 use crate::marks::{begins, past_mark, past_space};
-use crate::numbers::{number_end, plain_count, plain_digits};
+use crate::numbers::{PlainNumber, number_end, plain_at, plain_count, plain_digits};
 use crate::strings::{StringBytes, read_string, string_end, string_in};
 use std::alloc::{AllocError, Global};
 
@@ -101,10 +101,11 @@ fn object_end(text: &[u8], depth: u32) -> Option<&[u8]>
     None
 }
 
-/// A value that was read: a string's bytes, or where any other stands in the text.
+/// A value that was read: a string's bytes, a number of digits alone, or where any other stands in the text.
 #[derive(Drop)]
 pub enum ReadValue<'a> {
     Text(StringBytes<'a>),
+    Plain(PlainNumber<'a>),
     Other(&'a [u8]),
 }
 
@@ -117,6 +118,7 @@ impl<'a> ReadValue<'a> {
     {
         match self {
             ReadValue::Text(bytes) => Ok(Some(bytes)),
+            ReadValue::Plain(_) => Ok(None),
             ReadValue::Other(place) => string_in(alloc, place),
         }
     }
@@ -130,6 +132,7 @@ impl ReadValue<'_> {
     {
         match self {
             ReadValue::Text(bytes) => Ok(Some(StringBytes::Standing(bytes.as_slice()))),
+            ReadValue::Plain(_) => Ok(None),
             ReadValue::Other(place) => string_in(alloc, place),
         }
     }
@@ -141,6 +144,7 @@ impl ReadValue<'_> {
     {
         match self {
             ReadValue::Text(bytes) => Ok(Some(bytes.into_vec(alloc)?)),
+            ReadValue::Plain(_) => Ok(None),
             ReadValue::Other(place) => match string_in(alloc, place)? {
                 Some(bytes) => Ok(Some(bytes.into_vec(alloc)?)),
                 None => Ok(None),
@@ -156,6 +160,7 @@ impl ReadValue<'_> {
     {
         match self {
             ReadValue::Text(_) => None,
+            ReadValue::Plain(number) => Some(number.digits()),
             ReadValue::Other(place) => plain_digits(place),
         }
     }
@@ -170,6 +175,7 @@ impl ReadValue<'_> {
     {
         match self {
             ReadValue::Text(_) => None,
+            ReadValue::Plain(number) => Some((number.count, number.len)),
             ReadValue::Other(place) => plain_count(place),
         }
     }
@@ -190,6 +196,9 @@ pub fn read_value(
             Some((bytes, rest)) => Ok(Some((ReadValue::Text(bytes), rest))),
             None => Ok(None),
         };
+    }
+    if let Some(number) = plain_at(text) {
+        return Ok(Some((ReadValue::Plain(number), number.behind())));
     }
     match value_end(text, depth) {
         Some(rest) => Ok(Some((ReadValue::Other(text), rest))),

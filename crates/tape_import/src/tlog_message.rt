@@ -84,7 +84,7 @@ pub fn is_versioned(alloc: Global, value: &ReadValue) -> Result<bool, AllocError
 }
 
 /// The number of at most 18 digits alone that a value is.
-#[inline]
+#[inline(always)]
 pub fn count_of(value: &ReadValue) -> Option<u64>
     ensures { result ≡ count_of (Some (valued 63 value.now)) }
 {
@@ -99,6 +99,7 @@ pub fn bytes_of(alloc: Global, value: &ReadValue) -> Result<Option<Vec<u8>>, All
 {
     match value {
         ReadValue::Text(_) => Ok(None),
+        ReadValue::Plain(_) => Ok(None),
         ReadValue::Other(place) => {
             let bytes = bytes_in(alloc, place)?;
             Ok(bytes)
@@ -128,6 +129,7 @@ impl HeadRead<'_> {
         ensures last { IfSome result (λ s. s ≤ last_second) }
     {
         match &self.time {
+            Some(ReadValue::Plain(number)) => date_at(number.place),
             Some(ReadValue::Other(place)) => date_at(place),
             _ => None,
         }
@@ -158,6 +160,7 @@ impl HeadRead<'_> {
 }
 
 /// All of a stream, where both of its parts are what they have to be.
+#[inline(always)]
 fn all_of(given: Given<'_>) -> Option<Rest<'_>>
     ensures { option_map shown_stream result
         ≡ stream_by (option_map meant given.entry.text) (option_map (λ b. b.items) given.entry.bytes) }

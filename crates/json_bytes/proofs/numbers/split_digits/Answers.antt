@@ -6,4 +6,4 @@ use Rattle.json_bytes.proofs.numbers.split_digits.Goals as goal
 
 pub returns-clause-all : goal.returns-clause-all
 returns-clause-all c =
-    subst (AllPass is_ascii_digit) (sym (c.split_at.ensures.front ∙ ap (λ n. take n c.args.text.now) c.digits_len.ensures.digits)) (prefix_digits c.args.text.now)
+    subst (AllPass is_ascii_digit) (sym (c.split_at.ensures.front ∙ ap (λ n. take n c.args.text.now) c.count_digits.ensures.len)) (prefix_digits c.args.text.now)
