@@ -7,14 +7,25 @@ use Rattle.tape_import.specs.Asciicast.{date_of, term_of}
 use Rattle.tape_import.specs.TlogMessage.{Message, count_of, given_bytes, given_text, head_of, is_versioned, message_by, message_told, shown_of, stream_by, typed_of}
 use Rattle.tape_import.specs.TlogTiming.{Stream}
 use Rattle.tape_import.specs.declared.tlog_message.Head.{Head}
-use Rattle.std.proofs.Common.{◌≡◌, Bool, true, false, List, ℕ, codes, nat_eq, Option, Some, None, if◌then◌else◌, refl, ap, sym, ◌∙◌}
-use Rattle.std.specs.Cmp.Lexicographic.{bytes_decides, pointwise}
+use Rattle.std.proofs.Common.{◌≡◌, ◌≢◌, Bool, true, false, List, ℕ, codes, length, nat_eq, take, Option, Some, None, if◌then◌else◌, refl, ap, sym, ◌∙◌, arith}
+use Rattle.std.specs.Cmp.Lexicographic.{bytes_decides, pointwise, unequal}
+use Rattle.std.specs.List.{starts_with}
+use Rattle.std.proofs.lemmas.Cmp.{nat_list_eq_equiv}
+use Rattle.std.proofs.lemmas.List.{take_all}
 use Rattle.json_bytes.specs.Values.{Json}
 use Rattle.tape_import.specs.Asciicast.{is_word}
 use Rattle.tape_import.specs.KeptTlog.{Tells, field_named, with_member, word_of}
 use Rattle.tape_import.specs.declared.tlog_fields.Field.{Field}
 use Rattle.tape_import.specs.declared.tlog_fields.Field.TheVariants as field
 use Rattle.tape_import.specs.declared.tlog_fields.Fields.{Fields}
+
+-- a name that begins with a word of its own length is that word
+pub word_begins : (name word : List ℕ) → length name ≡ length word → starts_with nat_eq name word ≡ is_word word name
+word_begins name word same =
+    nat_list_eq_equiv.symm word (take (length word) name) ∙ ap (λ n. pointwise nat_eq n word) (take_all (length word) name (omega arith))
+
+pub word_longer : (name word : List ℕ) → length name ≢ length word → is_word word name ≡ false
+word_longer name word other = unequal nat_eq name word other
 
 same_field : (one wanted : Field) → Some one ≡ Some wanted → one ≡ wanted
 same_field one wanted is = cc

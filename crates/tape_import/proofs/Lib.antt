@@ -1,5 +1,6 @@
 mod AddedLemmas
 mod CastLemmas
+mod CountLemmas
 mod DateLemmas
 mod EntryLemmas
 mod FactsLemmas

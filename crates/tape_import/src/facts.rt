@@ -9,8 +9,7 @@ ghost use Rattle.tape_import.specs.Facts.{asked_size, parted, reported_size, sid
 ghost use Rattle.tape_import.specs.Kept.{IsSize};
 
 use tape_core::Bytes;
-use tape_core::limits::LAST_MOMENT;
-use tape_core::text::{are_digits, number, position_of};
+use tape_core::text::{position_of, read_number};
 
 /// The size of a terminal.
 #[derive(Clone, Copy, Debug, PartialEq, Eq)]
@@ -28,40 +27,25 @@ pub struct Facts {
     pub size: Option<Size>,
 }
 
-/// The number that digits write, where there are any; one above 10^18 counts as 10^18.
-pub fn read_digits(digits: &[u8]) -> Option<u64>
-    requires { AllPass is_ascii_digit digits.now }
-    ensures { result ≡ option_map (λ n. min n last_moment) (number_of digits.now) }
-{
-    if digits.is_empty() {
-        None
-    } else {
-        Some(number(digits, LAST_MOMENT))
-    }
-}
-
-/// The number that digits write, where a terminal may have so many columns or lines.
-pub fn side_of(digits: &[u8]) -> Option<u64>
-    requires { AllPass is_ascii_digit digits.now }
-    ensures side { result ≡ side (number_of digits.now) }
+/// A number, where a terminal may have so many columns or lines.
+pub fn side_of(number: u64) -> Option<u64>
+    ensures side { result ≡ side (Some number) }
     ensures small { IfSome result (λ n. n ≤ 9999) }
 {
-    match read_digits(digits) {
-        Some(number) if (1..=9999).contains(&number) => Some(number),
-        _ => None,
+    if (1..=9999).contains(&number) {
+        Some(number)
+    } else {
+        None
     }
 }
 
 /// The number of digits that a text writes, where a terminal may have so many columns or lines.
+#[tactic(auto, using(crate::proofs::CountLemmas::side_told))]
 pub fn side(text: &[u8]) -> Option<u64>
     ensures side { result ≡ side (number_of text.now) }
     ensures small { IfSome result (λ n. n ≤ 9999) }
 {
-    if are_digits(text) {
-        side_of(text)
-    } else {
-        None
-    }
+    side_of(read_number(text)?)
 }
 
 /// A size of both, where both are told.

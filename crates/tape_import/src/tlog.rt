@@ -1,5 +1,5 @@
 //! A recording of tlog: messages, one behind another.
-ghost use Rattle.std.specs.Prelude.{◌≡◌, ◌^◌, All, IfOk, IsTrue, None, OnOk, Some};
+ghost use Rattle.std.specs.Prelude.{◌≡◌, ◌^◌, [], All, IfOk, IsTrue, None, OnOk, Some};
 ghost use Rattle.std.specs.Option.{option_map};
 ghost use Rattle.json_bytes.specs.Strings.{meant};
 ghost use Rattle.tape_import.specs.KeptCast.{HasSizes, IsCounted, IsSized};
@@ -74,6 +74,7 @@ fn take_events(
     requires sized { All (λ e. IsSized e.what) events.old.items }
     ensures taken { IfOk result (λ fault. with_events events.old.items cast.old
         ≡ record { cast = cast.new; fault = fault }) }
+    ensures none { IfOk result (λ fault. fault ≡ None → events.new.items ≡ []) }
     ensures sizes { OnOk result (HasSizes cast.new) }
 {
     while let Some(event) = events.pop_front() {
@@ -148,6 +149,7 @@ impl Log {
         ensures taken { IfOk result (λ fault.
             with_taken self.old (shown_head head.now) (with_events events.old.items self.old.cast)
             ≡ record { log = self.new; fault = fault }) }
+        ensures none { IfOk result (λ fault. fault ≡ None → events.new.items ≡ []) }
         ensures can { OnOk result (CanLog self.new) }
     {
         let fault = take_events(&mut self.cast, events)?;
@@ -155,22 +157,24 @@ impl Log {
         Ok(fault)
     }
 
-    /// Reads a line, up to its fault, which is told. The list of events is but a place for them.
+    /// Reads a line, up to its fault, which is told. The list is a place for its events: it has none before the line, and
+    /// none behind one without a fault.
     fn take_line(
         &mut self,
         alloc: Global,
         line: &[u8],
         events: &mut VecDeque<Event>,
     ) -> Result<Option<EventFault>, AllocError>
-        requires { CanLog self.old }
+        requires log { CanLog self.old }
+        requires none { events.old.items ≡ [] }
         ensures taken { IfOk result (λ fault. with_line self.old line.now
             ≡ record { log = self.new; fault = fault }) }
+        ensures none { IfOk result (λ fault. fault ≡ None → events.new.items ≡ []) }
         ensures can { OnOk result (CanLog self.new) }
     {
         if is_blank_line(line) {
             return Ok(None);
         }
-        events.clear();
         let Some(head) = read_message(alloc, line, events)? else {
             return Ok(Some(EventFault::BadEvent));
         };

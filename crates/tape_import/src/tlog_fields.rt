@@ -4,6 +4,7 @@ ghost use Rattle.std.specs.Option.{option_map};
 ghost use Rattle.json_bytes.specs.Listed.{valued};
 ghost use Rattle.json_bytes.specs.Strings.{meant};
 ghost use Rattle.json_bytes.specs.Values.{Json, Members, json_of, last_named, member_of, named_value, object_at, value};
+ghost use Rattle.tape_import.specs.Asciicast.{is_word};
 ghost use Rattle.tape_import.specs.KeptTlog.{Tells, field_named, none_told, with_member, word_of};
 
 use crate::tlog_message::{bytes_of, count_of, is_versioned};
@@ -48,32 +49,41 @@ pub struct Fields<'a> {
     pub shown: Given<'a>,
 }
 
+/// Whether a name is this word, whose length is known where this is inlined: then few tests are left.
+#[inline(always)]
+#[tactic(auto, using(crate::proofs::FieldLemmas::word_begins, crate::proofs::FieldLemmas::word_longer))]
+fn is_named(name: &[u8], word: &[u8]) -> bool
+    ensures { result ≡ is_word word.now name.now }
+{
+    name.len() == word.len() && name.starts_with(word)
+}
+
 /// The member of this name.
 #[inline]
 fn field_named(name: &[u8]) -> Option<Field>
     ensures { result ≡ field_named name.now }
 {
-    if name == b"ver".as_slice() {
+    if is_named(name, b"ver") {
         Some(Field::Version)
-    } else if name == b"id".as_slice() {
+    } else if is_named(name, b"id") {
         Some(Field::Number)
-    } else if name == b"pos".as_slice() {
+    } else if is_named(name, b"pos") {
         Some(Field::Pos)
-    } else if name == b"rec".as_slice() {
+    } else if is_named(name, b"rec") {
         Some(Field::Recording)
-    } else if name == b"term".as_slice() {
+    } else if is_named(name, b"term") {
         Some(Field::Term)
-    } else if name == b"time".as_slice() {
+    } else if is_named(name, b"time") {
         Some(Field::Time)
-    } else if name == b"timing".as_slice() {
+    } else if is_named(name, b"timing") {
         Some(Field::Timing)
-    } else if name == b"in_txt".as_slice() {
+    } else if is_named(name, b"in_txt") {
         Some(Field::TypedText)
-    } else if name == b"in_bin".as_slice() {
+    } else if is_named(name, b"in_bin") {
         Some(Field::TypedBytes)
-    } else if name == b"out_txt".as_slice() {
+    } else if is_named(name, b"out_txt") {
         Some(Field::ShownText)
-    } else if name == b"out_bin".as_slice() {
+    } else if is_named(name, b"out_bin") {
         Some(Field::ShownBytes)
     } else {
         None

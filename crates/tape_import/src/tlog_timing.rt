@@ -13,11 +13,10 @@ ghost use Rattle.tape_import.specs.TlogTiming.{both_counted, characters_len, cou
 use crate::event::{Event, What};
 use crate::facts::{Size, side_of, size_of};
 use crate::tlog_stream::Rest;
-use json_bytes::split_digits;
+use json_bytes::count_digits;
 use std::alloc::{AllocError, Global};
 use std::collections::VecDeque;
 use tape_core::limits::LAST_MOMENT;
-use tape_core::text::number;
 
 /// An item of a timing: milliseconds that pass; characters of what was typed or shown; characters of it that are
 /// skipped, and bytes that stand for them; a change of size, none where it is badly formed.
@@ -116,64 +115,42 @@ fn continued_len(text: &[u8], count: u64) -> Option<usize>
     if left == 0 { Some(len) } else { None }
 }
 
-/// The digits at the front, one or more, and what stands behind them.
-fn digits_at(text: &[u8]) -> Option<(&[u8], &[u8])>
-    ensures read { option_map (λ r. (r.0.now, r.1.now)) result ≡ digits_at text.now }
-    ensures digits { IfSome result (λ r. AllPass is_ascii_digit r.0.now) }
-{
-    let (digits, rest) = split_digits(text);
-    if digits.is_empty() {
-        None
-    } else {
-        Some((digits, rest))
-    }
-}
-
-/// Their number, and what stands behind them.
+/// The number that the digits at the front write, one or more, and what stands behind them.
+#[tactic(auto, using(crate::proofs::CountLemmas::counted_at))]
 fn count_at(text: &[u8]) -> Option<(u64, &[u8])>
     ensures { option_map (λ r. (r.0, r.1.now)) result
         ≡ as_part counted (digits_at text.now) }
 {
-    let (digits, rest) = digits_at(text)?;
-    Some((number(digits, LAST_MOMENT), rest))
+    let (count, len) = count_digits(text);
+    if len == 0 {
+        return None;
+    }
+    Some((count, text.split_at(len).1))
 }
 
-/// Digits twice, with a byte between, and what stands behind them.
-fn two_at(byte: u8, text: &[u8]) -> Option<(&[u8], &[u8], &[u8])>
-    ensures read { option_map (λ r. ((r.0.now, r.1.now), r.2.now)) result
-        ≡ two_at byte text.now }
-    ensures first { IfSome result (λ r. AllPass is_ascii_digit r.0.now) }
-    ensures second { IfSome result (λ r. AllPass is_ascii_digit r.1.now) }
+/// Two numbers with a byte between, and what stands behind them.
+#[tactic(auto, using(crate::proofs::CountLemmas::two_counted))]
+fn counts_at(byte: u8, text: &[u8]) -> Option<(u64, u64, &[u8])>
+    ensures { option_map (λ r. ((r.0, r.1), r.2.now)) result
+        ≡ as_part both_counted (two_at byte text.now) }
 {
-    let (first, rest) = digits_at(text)?;
+    let (first, rest) = count_at(text)?;
     if !rest.starts_with(&[byte]) {
         return None;
     }
-    let (second, rest) = digits_at(&rest[1..])?;
+    let (second, rest) = count_at(&rest[1..])?;
     Some((first, second, rest))
-}
-
-/// Two numbers with a slash between, and what stands behind them.
-fn counts_at(text: &[u8]) -> Option<(u64, u64, &[u8])>
-    ensures { option_map (λ r. ((r.0, r.1), r.2.now)) result
-        ≡ as_part both_counted (two_at 47 text.now) }
-{
-    let (first, second, rest) = two_at(b'/', text)?;
-    Some((
-        number(first, LAST_MOMENT),
-        number(second, LAST_MOMENT),
-        rest,
-    ))
 }
 
 /// The size that columns and lines tell with an `x` between, none where there is no such terminal, and what stands
 /// behind them.
+#[tactic(auto, using(crate::proofs::CountLemmas::two_sided))]
 fn size_at(text: &[u8]) -> Option<(Option<Size>, &[u8])>
     ensures size { option_map (λ r. (r.0, r.1.now)) result
         ≡ as_part (λ n. sided (Some n)) (two_at 120 text.now) }
     ensures small { IfSome result (λ r. IfSome r.0 IsSize) }
 {
-    let (columns, lines, rest) = two_at(b'x', text)?;
+    let (columns, lines, rest) = counts_at(b'x', text)?;
     Some((size_of(side_of(columns), side_of(lines)), rest))
 }
 
@@ -196,11 +173,11 @@ fn word_behind(sign: u8, text: &[u8]) -> Option<(Word, &[u8])>
             Some((Word::Shown(count), rest))
         }
         b'[' => {
-            let (skipped, count, rest) = counts_at(text)?;
+            let (skipped, count, rest) = counts_at(b'/', text)?;
             Some((Word::TypedBytes(skipped, count), rest))
         }
         b']' => {
-            let (skipped, count, rest) = counts_at(text)?;
+            let (skipped, count, rest) = counts_at(b'/', text)?;
             Some((Word::ShownBytes(skipped, count), rest))
         }
         b'=' => {
