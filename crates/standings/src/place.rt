@@ -273,8 +273,9 @@ fn begins_between(rows: &[Row], above: usize, start: usize, end: usize, text: &[
     ensures { result ≡ false → (before : ℕ) → start ≤ before → before < end
         → begins text.now (line_text (drop above rows.now)) before ≡ false }
 {
+    let characters = characters_below(rows, above);
     for before in start..end {
-        if begins(&rows[above..], before, text) {
+        if begins(rows, above, characters, before, text) {
             return true;
         }
     }
@@ -347,9 +348,10 @@ fn put_block(
         ≡ length (places_part text.now above (line_text (drop above rows.now)) start (end - start)) }
     ensures few { result ≤ end - start }
 {
+    let characters = characters_below(rows, above);
     let mut found = 0;
     for before in start..end {
-        if begins(&rows[above..], before, text) {
+        if begins(rows, above, characters, before, text) {
             put(places, Place { above, before });
             found += 1;
         }
@@ -447,22 +449,27 @@ fn has_pair(characters: &[char], first: char, second: char) -> bool
     found
 }
 
-/// Whether a text begins behind so many characters in the line whose rows these are from its first one on.
-fn begins(rows: &[Row], before: usize, text: &[char]) -> bool
-    requires { before < length (row_below rows.now 0).characters }
-    ensures { result ≡ begins text.now (line_text rows.now) before }
+/// Whether a text begins behind so many characters of the row below so many others, by its characters: most of them are seen
+/// at once to be other ones than the text's first.
+#[inline(always)]
+fn begins(rows: &[Row], above: usize, characters: &[char], before: usize, text: &[char]) -> bool
+    requires row { above < length rows.now }
+    requires characters { characters.now ≡ (row_below rows.now above).characters }
+    requires before { before < length characters.now }
+    ensures { result ≡ begins text.now (line_text (drop above rows.now)) before }
 {
-    if !may_begin(characters_below(rows, 0), before, text) {
+    if !may_begin(characters, before, text) {
         return false;
     }
     if text.len() <= 1 {
         // Of one character no more is to be seen.
         return true;
     }
-    begins_along(rows, before, text)
+    begins_along(&rows[above..], before, text)
 }
 
 /// Whether a character isn't another one than the first of a text.
+#[inline(always)]
 fn may_begin(characters: &[char], before: usize, text: &[char]) -> bool
     requires { before < length characters.now }
     ensures differs { result ≡ false → (rest : List ℕ)
@@ -473,7 +480,7 @@ fn may_begin(characters: &[char], before: usize, text: &[char]) -> bool
     text.is_empty() || characters[before] == text[0]
 }
 
-/// The same as `begins`, row by row.
+/// The same in the line whose rows these are from its first one on, row by row.
 fn begins_along(rows: &[Row], before: usize, text: &[char]) -> bool
     requires { before ≤ length (row_below rows.now 0).characters }
     ensures { result ≡ begins text.now (line_text rows.now) before }

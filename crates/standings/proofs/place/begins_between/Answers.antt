@@ -1,6 +1,5 @@
 use Rattle.std.proofs.Common.{◌≡◌, ◌∙◌, ap, arith, drop, inl, inr, sym}
 use Rattle.std.proofs.lemmas.Bool.{cases_lt}
-use Rattle.std.proofs.lemmas.List.{take_rest}
 use Rattle.standings.specs.Standing.{begins, line_text}
 use Rattle.standings.proofs.place.begins_between.Goals as goal
 
@@ -14,5 +13,5 @@ loop-before-preserved c = λ k low lt.
       | inr late ↦
           let here : before ≡ k = omega arith in
           ap (begins text (line_text (drop c.args.above rows))) (sym here)
-          ∙ ap (λ l. begins text (line_text l) before) (sym (take_rest rows c.args.above)) ∙ sym c.begins.ensures ∙ c.if-begins.false
+          ∙ sym c.begins.ensures ∙ c.if-begins.false
     ]

@@ -1,5 +1,5 @@
 use Rattle.std.proofs.Common.{◌≡◌, ◌+◌, ◌-◌, ◌++◌, ◌∷◌, ◌∙◌, ◌≤◌, [], ap, arith, cond, drop, length, sym, vec_capacity}
-use Rattle.std.proofs.lemmas.List.{length-append, take_rest}
+use Rattle.std.proofs.lemmas.List.{length-append}
 use Rattle.standings.specs.Near.{places_part}
 use Rattle.standings.specs.Room.{fitting}
 use Rattle.standings.specs.Standing.{begins, line_text, place_in}
@@ -21,7 +21,7 @@ loop-before-preserved c =
     let more : before + 1 - start ≡ n + 1 = omega arith in
     let so_far = c.loop-before.places.items in
     let last = cond c.begins.result (place_in above before ∷ []) [] in
-    let told = c.begins.ensures ∙ ap (λ l. begins text (line_text l) before) (take_rest c.args.rows.now above) ∙ ap (begins text line) (sym here) in
+    let told = c.begins.ensures ∙ ap (begins text line) (sym here) in
     let parts : places_part text above line start (before + 1 - start) ≡ places_part text above line start n ++ last =
     ap (places_part text above line start) more ∙ part_more text above line start n c.begins.result told
     ∙ ap (λ k. places_part text above line start n ++ cond c.begins.result (place_in above k ∷ []) []) here in
