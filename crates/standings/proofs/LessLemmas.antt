@@ -106,10 +106,6 @@ pub whole_told : (row spent : List ℕ) (one : List Row) (places : List Place) (
 whole_told row spent one places told was wanted n last is begins holds =
     is ∙ ap (λ b. was || b) (last begins ∙ holds) ∙ or_true was
 
--- and it stays told of
-pub still_told : (told was last : Bool) → told ≡ (was || last) → was ≡ true → told ≡ true
-still_told told was last is holds = is ∙ ap (λ b. b || last) holds
-
 -- it is told of all that are wanted, which are less, where it is of those with a left part of some place alone
 pub all_told : (one other : List Row) (places others alone alones : List Place) (told away : Bool) (n : ℕ) → n < length places
     → PairOff one places other others alone alones

@@ -242,6 +242,52 @@ front_shared row characters left before least begins is le =
     (sym (take-take least (length left) row le) ∙ ap (take least) (sym (front_is row left begins)) ∙ ap (take least) (sym is)
     ∙ take-take least before characters (omega (arith, le, some)) ∙ ap (λ n. take n characters) (sym fits))
 
+-- where no row begins with as many of the row's first characters no place has a left part with as many
+pub none_begin : (row : List ℕ) (rows : List Row) (places : List Place) (least : ℕ) (left : List ℕ) → 0 < length (take least row)
+    → ((above : ℕ) → above < length rows → starts_with nat_eq (row_below rows above).characters (take least row) ≡ false)
+    → starts_with nat_eq row left ≡ true → least ≤ length left → count_left rows places left ≡ 0
+none_begin row rows places least left some apart begins high = elim (cases_lt 0 (count_left rows places left)) [
+  | inr zero ↦ no_less (count_left rows places left) zero
+  | inl has ↦
+      let one = one_has rows places left has in
+      let place = place_at places one.0 in
+      elim (cases_lt place.above (length rows)) [
+        | inl below ↦ absurd (false≢true (sym (apart place.above below) ∙ front_shared row (row_below rows place.above).characters left place.before least begins one.2 high))
+        | inr past ↦ absurd (omega (
+          arith,
+          some,
+          high,
+          length-take least row,
+          ap length one.2,
+          length-take place.before (row_below rows place.above).characters,
+          ap (λ (r : Row). length r.characters) (get_or_past rows place.above empty_row (omega (arith, past))),
+        ))
+      ]
+]
+
+-- and one of the row's own rows alone
+pub own_begin : (row : List ℕ) (rows : List Row) (place : Place) (above least : ℕ) (left : List ℕ) → 0 < length (take least row)
+    → ((k : ℕ) → k < length rows → (k ≡ above → ⊥) → starts_with nat_eq (row_below rows k).characters (take least row) ≡ false)
+    → starts_with nat_eq row left ≡ true → least ≤ length left → left_of rows place ≡ left
+    → (place.above ≡ above) × (least ≤ place.before)
+own_begin row rows place above least left some apart begins high is =
+    let low : least ≤ place.before = omega (arith, high, ap length is, length-take place.before (row_below rows place.above).characters) in
+    elim (cases_eq place.above above) [
+      | inl same ↦ (same, low)
+      | inr differs ↦ elim (cases_lt place.above (length rows)) [
+        | inl below ↦ absurd (false≢true (sym (apart place.above below differs) ∙ front_shared row (row_below rows place.above).characters left place.before least begins is high))
+        | inr past ↦ absurd (omega (
+          arith,
+          some,
+          high,
+          length-take least row,
+          ap length is,
+          length-take place.before (row_below rows place.above).characters,
+          ap (λ (r : Row). length r.characters) (get_or_past rows place.above empty_row (omega (arith, past))),
+        ))
+      ]
+    ]
+
 -- where no row begins with as many of the row's first characters no place has one that counts
 pub none_here : (row counts : List ℕ) (rows : List Row) (places : List Place) (least each : ℕ) (left : List ℕ) → 0 < length (take least row)
     → ((k : ℕ) → k < least → get_or counts k 0 ≡ 0)
@@ -249,22 +295,5 @@ pub none_here : (row counts : List ℕ) (rows : List Row) (places : List Place) 
     → starts_with nat_eq row left ≡ true → for_left counts left ≡ for_left counts left - each * count_left rows places left
 none_here row counts rows places least each left some none apart begins = elim (cases_lt (length left) least) [
   | inl low ↦ omega (arith, none (length left) low)
-  | inr high ↦ elim (cases_lt 0 (count_left rows places left)) [
-    | inr zero ↦ omega (arith, ap (λ n. each * n) (no_less (count_left rows places left) zero))
-    | inl has ↦
-        let one = one_has rows places left has in
-        let place = place_at places one.0 in
-        elim (cases_lt place.above (length rows)) [
-          | inl below ↦ absurd (false≢true (sym (apart place.above below) ∙ front_shared row (row_below rows place.above).characters left place.before least begins one.2 (omega (arith, high))))
-          | inr past ↦ absurd (omega (
-            arith,
-            some,
-            high,
-            length-take least row,
-            ap length one.2,
-            length-take place.before (row_below rows place.above).characters,
-            ap (λ (r : Row). length r.characters) (get_or_past rows place.above empty_row (omega (arith, past))),
-          ))
-        ]
-  ]
+  | inr high ↦ omega (arith, ap (λ n. each * n) (none_begin row rows places least left some apart begins (omega (arith, high))))
 ]

@@ -54,6 +54,10 @@ is_away (Some ends) left =
     is_lone ends.now.first.now.rows.items ends.now.first.now.places.items left
     && is_lone ends.now.last.now.rows.items ends.now.last.now.places.items left
 
+-- whether place n is less on the other screen, and has nothing with the same to the left at the ends of a chunk, where they are given
+abbrev pub is_wanted : Option (Bor Ends) → List Row → List Place → List Row → List Place → ℕ → Bool
+is_wanted ends one places other others n = is_away ends (left_of one (place_at places n)) && is_less one places other others n
+
 -- whether nothing has the same to the left as place n on a first screen and a last, and it is less on another
 abbrev pub has_passed : List Row → List Place → List Row → List Place → List Row → List Place → List Row → List Place → ℕ → Bool
 has_passed first firsts last lasts one places other others n =

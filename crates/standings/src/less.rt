@@ -3,9 +3,9 @@
 //! Of each left part one screen has as many places more than another as its rows that stand alone have more than those of
 //! the other. That surplus is kept for a row at a time, by the length of the left part, and the last so many places are less.
 
-ghost use Rattle.std.specs.Prelude.{◌≡◌, ◌+◌, ◌-◌, ◌*◌, ◌<◌, ◌≤◌, ◌&&◌, ◌||◌, false, true, List, ℕ, None, length, nat_eq, replicate, slice_index_or, IfOk, IfSome, OnOk};
+ghost use Rattle.std.specs.Prelude.{◌≡◌, ◌+◌, ◌-◌, ◌*◌, ◌<◌, ◌≤◌, ◌&&◌, ◌||◌, false, true, List, ℕ, None, length, nat_eq, replicate, slice_index_or, take, IfOk, IfSome, OnOk};
 ghost use Rattle.std.specs.List.{starts_with};
-ghost use Rattle.standings.specs.Less.{Agree, ArePassed, HasAll, HasEach, IsSurplus, IsTold, PairOff, SomePass, for_left, has_passed, is_away, is_last, may_pass};
+ghost use Rattle.standings.specs.Less.{Agree, ArePassed, HasAll, HasEach, IsSurplus, IsTold, PairOff, SomePass, for_left, has_passed, is_away, is_last, is_wanted, may_pass};
 ghost use Rattle.standings.specs.Rows.{Row, row_below};
 ghost use Rattle.standings.specs.Standing.{count_left, is_less, left_of, place_at};
 ghost use Rattle.standings.specs.declared.place.Place.{Place};
@@ -230,14 +230,163 @@ fn tell(
     let mut surplus = Vec::new(alloc);
     let mut at = 0;
     while at < alone.one.len() {
-        let above = alone.one[at].above;
-        let row = characters_below(one.rows.as_slice(), above);
-        find_surplus(row, above, one, other, alone, &mut surplus)?;
-        spend(row, ends, surplus.as_mut_slice());
-        tell_last(row, above, one, surplus.as_mut_slice(), told.as_mut_slice());
-        at = row_end(alone.one.as_slice(), at);
+        let end = row_end(alone.one.as_slice(), at);
+        tell_row(
+            at,
+            end,
+            ends,
+            one,
+            other,
+            alone,
+            &mut surplus,
+            told.as_mut_slice(),
+        )?;
+        at = end;
     }
     Ok(told)
+}
+
+/// The same of the places with a left part that a row begins with: the one in which those of a screen stand alone from one
+/// up to and without another. Mostly no other row begins as it does up to the first of them, which is seen at once.
+fn tell_row(
+    from: usize,
+    to: usize,
+    ends: Option<&Ends<'_>>,
+    one: &Standing,
+    other: &Standing,
+    alone: &Alone,
+    surplus: &mut Vec<usize>,
+    told: &mut [bool],
+) -> Result<(), AllocError>
+    requires some { from < to }
+    requires within { to ≤ length alone.now.one.items }
+    requires told { length told.old ≡ length one.now.places.items }
+    ensures right { PairOff one.now.rows.items one.now.places.items other.now.rows.items
+        other.now.places.items alone.now.one.items alone.now.other.items
+        → OnOk result ((n : ℕ) → n < length one.now.places.items
+        → (slice_index_or told.old n false ≡ true → is_wanted ends.entry one.now.rows.items one.now.places.items
+        other.now.rows.items other.now.places.items n ≡ true)
+        → slice_index_or told.new n false ≡ true → is_wanted ends.entry one.now.rows.items one.now.places.items
+        other.now.rows.items other.now.places.items n ≡ true) }
+    ensures kept { OnOk result ((n : ℕ) → n < length one.now.places.items
+        → slice_index_or told.old n false ≡ true → slice_index_or told.new n false ≡ true) }
+    ensures whole { PairOff one.now.rows.items one.now.places.items other.now.rows.items
+        other.now.places.items alone.now.one.items alone.now.other.items
+        → OnOk result ((n b : ℕ) → n < length one.now.places.items
+        → left_of one.now.rows.items (place_at one.now.places.items n)
+        ≡ take b (row_below one.now.rows.items (place_at alone.now.one.items from).above).characters
+        → ((least : ℕ) → ((k : ℕ) → from ≤ k → k < to → least ≤ (place_at alone.now.one.items k).before) → least ≤ b)
+        → is_wanted ends.entry one.now.rows.items one.now.places.items
+        other.now.rows.items other.now.places.items n ≡ true
+        → slice_index_or told.new n false ≡ true) }
+{
+    let above = alone.one[from].above;
+    let row = characters_below(one.rows.as_slice(), above);
+    let before = least_before(&alone.one.as_slice()[from..to]);
+    if is_fresh(row, above, before, ends, one, other) {
+        tell_behind(one.places.as_slice(), above, before, told);
+        return Ok(());
+    }
+    find_surplus(row, above, one, other, alone, surplus)?;
+    spend(row, ends, surplus.as_mut_slice());
+    tell_last(row, above, one, surplus.as_mut_slice(), told);
+    Ok(())
+}
+
+/// Behind how many characters some places stand at least.
+fn least_before(places: &[Place]) -> usize
+    ensures { (k : ℕ) → k < length places.now → result ≤ (place_at places.now k).before }
+{
+    let mut least = usize::MAX;
+    for place in places {
+        least = least.min(place.before);
+    }
+    least
+}
+
+/// Whether no other row of a screen begins as one does up to so many characters, nor one of the other screen, nor of those
+/// at the ends, where they are given: the one below so many others.
+fn is_fresh(
+    row: &[char],
+    above: usize,
+    before: usize,
+    ends: Option<&Ends<'_>>,
+    one: &Standing,
+    other: &Standing,
+) -> bool
+    ensures some { result ≡ true → 0 < before }
+    ensures within { result ≡ true → before ≤ length row.now }
+    ensures own { result ≡ true → (k : ℕ) → k < length one.now.rows.items → (k ≡ above → ⊥)
+        → starts_with nat_eq (row_below one.now.rows.items k).characters (take before row.now) ≡ false }
+    ensures other { result ≡ true → (left : List ℕ) → starts_with nat_eq row.now left ≡ true
+        → before ≤ length left → count_left other.now.rows.items other.now.places.items left ≡ 0 }
+    ensures away { result ≡ true → (left : List ℕ) → starts_with nat_eq row.now left ≡ true
+        → before ≤ length left → is_away ends.entry left ≡ true }
+{
+    if before == 0 || before > row.len() {
+        return false;
+    }
+    if !begins_nowhere(row, before, other) {
+        return false;
+    }
+    if !are_apart(row, before, ends) {
+        return false;
+    }
+    !others_begin(one.rows.as_slice(), above, &row[..before])
+}
+
+/// Whether no row of the screens at the ends begins as one does up to so many characters, where they are given.
+fn are_apart(row: &[char], before: usize, ends: Option<&Ends<'_>>) -> bool
+    requires some { 0 < before }
+    requires within { before ≤ length row.now }
+    ensures { result ≡ true → (left : List ℕ) → starts_with nat_eq row.now left ≡ true
+        → before ≤ length left → is_away ends.entry left ≡ true }
+{
+    match ends {
+        None => true,
+        Some(ends) => begins_nowhere(row, before, ends.first)
+            && begins_nowhere(row, before, ends.last),
+    }
+}
+
+/// Whether no row of a screen begins as one does up to so many characters, so that no place there has such a left part.
+fn begins_nowhere(row: &[char], before: usize, still: &Standing) -> bool
+    requires some { 0 < before }
+    requires within { before ≤ length row.now }
+    ensures { result ≡ true → (left : List ℕ) → starts_with nat_eq row.now left ≡ true
+        → before ≤ length left → count_left still.now.rows.items still.now.places.items left ≡ 0 }
+{
+    !some_begins(still.rows.as_slice(), &row[..before])
+}
+
+/// Whether some row but the one below so many others begins with these characters.
+fn others_begin(rows: &[Row], above: usize, front: &[char]) -> bool
+    requires { 0 < length front.now }
+    ensures { result ≡ false → (k : ℕ) → k < length rows.now → (k ≡ above → ⊥)
+        → starts_with nat_eq (row_below rows.now k).characters front.now ≡ false }
+{
+    for at in 0..rows.len() {
+        if at != above && begins_with(rows[at].characters(), front) {
+            return true;
+        }
+    }
+    false
+}
+
+/// Tells of the places of a row that stand behind so many characters: the one below so many others.
+fn tell_behind(places: &[Place], above: usize, before: usize, told: &mut [bool])
+    requires { length told.old ≡ length places.now }
+    ensures kept { (n : ℕ) → slice_index_or told.old n false ≡ true → slice_index_or told.new n false ≡ true }
+    ensures told { (n : ℕ) → n < length places.now → (place_at places.now n).above ≡ above
+        → before ≤ (place_at places.now n).before → slice_index_or told.new n false ≡ true }
+    ensures only { (n : ℕ) → slice_index_or told.new n false ≡ true → slice_index_or told.old n false ≡ false
+        → ((place_at places.now n).above ≡ above) × (before ≤ (place_at places.now n).before) }
+{
+    for n in 0..places.len() {
+        if places[n].above == above && before <= places[n].before {
+            told[n] = true;
+        }
+    }
 }
 
 /// Leaves no surplus of a left part that stands at an end, where they are given.
