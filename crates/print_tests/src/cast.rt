@@ -96,7 +96,7 @@ fn cast_of(rt: &(impl Runtime<A = Global> + Abort), chunks: &[u8]) -> Result<Vec
     let recording = read(rt, script.as_slice(), timing.as_bytes())?;
     let mut session = Session::open(alloc, recording, 1)?;
     let mut writer = Watched::new(Vec::new(alloc));
-    assert_eq!(rt; cast(&mut session, &mut writer), Ok(()));
+    assert_eq!(rt; cast(alloc, &mut session, &mut writer), Ok(()));
     Ok(writer.into_inner())
 }
 
@@ -115,7 +115,7 @@ fn no_chunks_are_no_events(rt: HostRuntime) -> Result<(), Fail> {
     let recording = read(&rt, b"\n", b"")?;
     let mut session = Session::open(rt.alloc(), recording, 1)?;
     let mut writer = Watched::new(Vec::new(rt.alloc()));
-    assert_eq!(&rt; cast(&mut session, &mut writer), Ok(()));
+    assert_eq!(&rt; cast(rt.alloc(), &mut session, &mut writer), Ok(()));
     assert_eq!(&rt; writer.into_inner().as_slice(), NO_EVENTS.as_bytes());
     Ok(())
 }

@@ -12,7 +12,7 @@ use Rattle.screen_print.specs.Walk.{whole_text}
 use Rattle.vt_screen.specs.declared.cell.Row.{Row}
 use Rattle.vt_screen.specs.Attributes.{plain}
 use Rattle.vt_screen.specs.Cells.{row_at}
-use Rattle.vt_screen.specs.Picture.{columns}
+use Rattle.vt_screen.specs.Picture.{Picture, columns}
 use Rattle.screen_print.specs.EscapedText.{rendition_set_text}
 use Rattle.screen_rows.specs.Texts.{text_where}
 use Rattle.screen_rows.specs.SameRows.{changed_lines, is_changed}
@@ -50,25 +50,31 @@ row_is width reversed line row =
     ∙ ap (λ t. json opening ++ t ++ json ground ++ json closing) (joined_twice json_byte (run_text reversed row) (runs_of row))
     ∙ append_assoc (json opening ++ parts) (json ground) (json closing))
 
-line_is : (still : Still) (line : ℕ) → line_part still line ≡ json (line_text still line)
-unfolding line_part
-line_is still line = row_is (columns still.wide) still.reversed line (row_at still.rows line)
+-- what a picture shows, reversed or not
+abbrev pub shown : Picture → Bool → Still
+shown p reversed = record { wide = p.wide; rows = p.rows; reversed = reversed; line = p.line; column = p.column }
 
-lines_are : (still : Still) (lines : List ℕ) → flat_map (line_part still) lines ≡ json (flat_map (line_text still) lines)
+line_is : (p : Picture) (reversed : Bool) (line : ℕ) → line_part p reversed line ≡ json (line_text (shown p reversed) line)
+unfolding line_part
+line_is p reversed line = row_is (columns p.wide) reversed line (row_at p.rows line)
+
+lines_are : (p : Picture) (reversed : Bool) (lines : List ℕ) → flat_map (line_part p reversed) lines ≡ json (flat_map (line_text (shown p reversed)) lines)
 unfolding json
-lines_are still [] = refl
-lines_are still (line ∷ lines) =
-    ap (λ t. t ++ flat_map (line_part still) lines) (line_is still line)
-    ∙ ap (λ t. json (line_text still line) ++ t) (lines_are still lines)
-    ∙ sym (flat_map-append json_byte (line_text still line) (flat_map (line_text still) lines))
+lines_are p reversed [] = refl
+lines_are p reversed (line ∷ lines) =
+    let text = line_text (shown p reversed) in
+    ap (λ t. t ++ flat_map (line_part p reversed) lines) (line_is p reversed line)
+    ∙ ap (λ t. json (text line) ++ t) (lines_are p reversed lines)
+    ∙ sym (flat_map-append json_byte (text line) (flat_map text lines))
 
 -- what is drawn of a screen, part by part
-pub drawn_is : (still : Still) (lines : List ℕ)
-    → flat_map (line_part still) lines ++ json (cursor_text still.rows still.line still.column) ≡ json (drawn_text still lines)
+pub drawn_is : (p : Picture) (reversed : Bool) (lines : List ℕ)
+    → flat_map (line_part p reversed) lines ++ json (cursor_text p.rows p.line p.column) ≡ json (drawn_text (shown p reversed) lines)
 unfolding drawn_text json
-drawn_is still lines =
-    let place = cursor_text still.rows still.line still.column in
-    ap (λ t. t ++ json place) (lines_are still lines) ∙ sym (flat_map-append json_byte (flat_map (line_text still) lines) place)
+drawn_is p reversed lines =
+    let place = cursor_text p.rows p.line p.column in
+    let text = line_text (shown p reversed) in
+    ap (λ t. t ++ json place) (lines_are p reversed lines) ∙ sym (flat_map-append json_byte (flat_map text lines) place)
 
 -- lines that differ are lines of a screen
 pub lines_within : (before after : List Row) → All (λ line. (1 ≤ line) × (line ≤ 24)) (changed_lines before after)

@@ -240,3 +240,33 @@ size_is due wide =
     (five (seconds_form due) before (code ++ behind) (size_text wide) closes
     ∙ ap (λ t. t ++ size_text wide ++ closes) (sym (append_assoc (seconds_form due ++ before) code behind))
     ∙ ap (λ t. seconds_form due ++ before ++ code ++ behind ++ t ++ closes) (sym (size_stands wide)))
+
+-- ---- what is laid out
+
+-- a text behind another one
+pub text_behind : (start text more now : List ℕ) → now ≡ start ++ text → now ++ more ≡ start ++ (text ++ more)
+text_behind start text more now is = ap (λ t. t ++ more) is ∙ append_assoc start text more
+
+space_stands : (holds : Bool) → json (text_where holds (32 ∷ [])) ≡ text_where holds (32 ∷ [])
+unfolding json
+space_stands true = refl
+space_stands false = refl
+
+-- a cell, and a space behind it on the double sizes
+pub cell_is : (size : Size) (cell : Cell) → json (cell_text size cell) ≡ json (printed cell) ++ text_where (not (is_single size)) (32 ∷ [])
+unfolding json
+cell_is size cell =
+    flat_map-append json_byte (printed cell) (text_where (not (is_single size)) (32 ∷ []))
+    ∙ ap (λ t. json (printed cell) ++ t) (space_stands (not (is_single size)))
+
+-- cells, and one more
+pub cells_more : (size : Size) (cells : List Cell) (cell : Cell) → json (flat_map (cell_text size) (cells ++ cell ∷ [])) ≡ json (flat_map (cell_text size) cells) ++ json (cell_text size cell)
+unfolding json
+cells_more size cells cell =
+    ap json (flat_map-append (cell_text size) cells (cell ∷ []) ∙ ap (λ t. flat_map (cell_text size) cells ++ t) (append-nil (cell_text size cell)))
+    ∙ flat_map-append json_byte (flat_map (cell_text size) cells) (cell_text size cell)
+
+-- no cell
+pub no_cells : (start : List ℕ) → start ≡ start ++ json []
+unfolding json
+no_cells start = sym (append-nil start)

@@ -3,3 +3,7 @@ pub mod Events
 pub mod Json
 pub mod Parts
 pub mod Cast
+pub mod Texts
+pub mod TextView
+pub mod ShownView
+pub mod DrawnView

@@ -1,6 +1,6 @@
 //! Rows and the cursor, drawn for a player's terminal and written as they stand in a string of JSON.
 
-ghost use Rattle.std.specs.Prelude.{◌≡◌, ◌≤◌, ◌-◌, All, length, replicate};
+ghost use Rattle.std.specs.Prelude.{◌≡◌, ◌<◌, ◌≤◌, ◌-◌, All, length, replicate, true};
 ghost use Rattle.std.specs.List.{flat_map};
 ghost use Rattle.held.specs.Held.{Wrote};
 ghost use Rattle.vt_screen.specs.Attributes.{plain};
@@ -20,9 +20,10 @@ ghost use Rattle.screen_cast.specs.Drawn.{
   spaces_text,
 };
 ghost use Rattle.screen_cast.specs.Json.{json};
-ghost use Rattle.screen_cast.specs.Parts.{line_part, row_front, row_part, row_rest};
+ghost use Rattle.screen_cast.specs.Parts.{line_part, row_rest};
+ghost use Rattle.screen_cast.specs.Texts.{AreTexts};
 
-use crate::runs::put_runs;
+use crate::texts::{RunsText, put_runs};
 use arrayvec::ArrayVec;
 use held::{HELD, put, put_byte, put_number};
 use screen_rows::inked;
@@ -32,59 +33,79 @@ use vt_screen::limits::{LINES, WIDE_COLUMNS};
 use vt_screen::{Row, Screen, Size};
 use vt_term::Terminal;
 
+/// How many bytes a row begins with where the number of its line has two digits.
+const OPENING: usize = 30;
+
 /// The spaces of a line without characters.
 const SPACES: [u8; WIDE_COLUMNS as usize] = [b' '; WIDE_COLUMNS as usize];
 
-/// Writes these lines of a screen, and its cursor.
+/// Writes these lines of the screen of a terminal, and its cursor.
 pub(crate) fn put_drawn<W: Write>(
     terminal: &Terminal,
+    screen: &Screen,
     lines: &[u8],
+    texts: &mut [RunsText],
     held: &mut ArrayVec<u8, HELD>,
     writer: &mut Watched<W>,
 )
+    requires shown { screen.now.picture ≡ terminal.now.console.picture }
     requires lines { All (λ line. (1 ≤ line) × (line ≤ LINES)) lines.now }
-    ensures { Wrote W.contents writer.old held.old.items writer.new held.new.items
+    requires texts { AreTexts terminal.now.console.modes.reverse_screen screen.now.order
+        screen.now.picture.rows texts.old }
+    ensures texts { AreTexts terminal.now.console.modes.reverse_screen screen.now.order
+        screen.now.picture.rows texts.new }
+    ensures wrote { Wrote W.contents writer.old held.old.items writer.new held.new.items
         (json (drawn_text (still_of terminal.now.console) lines.now)) }
 {
-    put_lines(terminal, lines, held, writer);
-    put_cursor(terminal.screen(), held, writer);
+    let reversed = terminal.modes().reverse_screen;
+    put_lines(reversed, screen, lines, texts, held, writer);
+    put_cursor(screen, held, writer);
 }
 
 /// Writes these lines.
 fn put_lines<W: Write>(
-    terminal: &Terminal,
+    reversed: bool,
+    screen: &Screen,
     lines: &[u8],
+    texts: &mut [RunsText],
     held: &mut ArrayVec<u8, HELD>,
     writer: &mut Watched<W>,
 )
     requires lines { All (λ line. (1 ≤ line) × (line ≤ LINES)) lines.now }
-    ensures { Wrote W.contents writer.old held.old.items writer.new held.new.items
-        (flat_map (line_part (still_of terminal.now.console)) lines.now) }
+    requires texts { AreTexts reversed screen.now.order screen.now.picture.rows texts.old }
+    ensures texts { AreTexts reversed screen.now.order screen.now.picture.rows texts.new }
+    ensures wrote { Wrote W.contents writer.old held.old.items writer.new held.new.items
+        (flat_map (line_part screen.now.picture reversed) lines.now) }
 {
     for line in lines {
-        put_line(terminal, *line, held, writer);
+        put_line(reversed, screen, *line, texts, held, writer);
     }
 }
 
-/// Writes a line, part by part, each made in the text.
-#[tactic(auto, unfolding(crate::specs::Parts::line_part))]
+/// Writes a line, part by part.
+#[tactic(auto, unfolding(crate::specs::Parts::line_part, crate::specs::Parts::row_front, crate::specs::Parts::row_rest))]
 fn put_line<W: Write>(
-    terminal: &Terminal,
+    reversed: bool,
+    screen: &Screen,
     line: u8,
+    texts: &mut [RunsText],
     held: &mut ArrayVec<u8, HELD>,
     writer: &mut Watched<W>,
 )
     requires low { 1 ≤ line }
     requires high { line ≤ LINES }
-    ensures { Wrote W.contents writer.old held.old.items writer.new held.new.items
-        (line_part (still_of terminal.now.console) line) }
+    requires texts { AreTexts reversed screen.now.order screen.now.picture.rows texts.old }
+    ensures texts { AreTexts reversed screen.now.order screen.now.picture.rows texts.new }
+    ensures wrote { Wrote W.contents writer.old held.old.items writer.new held.new.items
+        (line_part screen.now.picture reversed line) }
 {
-    let screen = terminal.screen();
     let ground = Ground {
         width: screen.columns(),
-        reversed: terminal.modes().reverse_screen,
+        reversed,
     };
-    put_row(ground, line, screen.row(line), held, writer);
+    put_opening(line, held, writer);
+    put_runs(texts, screen, line, reversed, held, writer);
+    put_rest(ground, screen.row(line), held, writer);
 }
 
 /// What rows stand on: a screen of so many columns, and whether it is reversed.
@@ -92,40 +113,6 @@ fn put_line<W: Write>(
 struct Ground {
     width: u8,
     reversed: bool,
-}
-
-/// Writes a row.
-fn put_row<W: Write>(
-    ground: Ground,
-    line: u8,
-    row: &Row,
-    held: &mut ArrayVec<u8, HELD>,
-    writer: &mut Watched<W>,
-)
-    requires width { ground.width ≤ WIDE_COLUMNS }
-    requires whole { length row.now.cells ≡ WIDE_COLUMNS }
-    ensures { Wrote W.contents writer.old held.old.items writer.new held.new.items
-        (row_part ground.width ground.reversed line row.now) }
-{
-    put_front(ground.reversed, line, row, held, writer);
-    put_rest(ground, row, held, writer);
-}
-
-/// Writes a row to its last run.
-#[tactic(auto, unfolding(crate::specs::Parts::row_front))]
-fn put_front<W: Write>(
-    reversed: bool,
-    line: u8,
-    row: &Row,
-    held: &mut ArrayVec<u8, HELD>,
-    writer: &mut Watched<W>,
-)
-    requires whole { length row.now.cells ≡ WIDE_COLUMNS }
-    ensures { Wrote W.contents writer.old held.old.items writer.new held.new.items
-        (row_front reversed line row.now) }
-{
-    put_opening(line, held, writer);
-    put_runs(reversed, row, held, writer);
 }
 
 /// Writes what stands behind a row's last run.
@@ -154,14 +141,38 @@ fn put_closing<W: Write>(held: &mut ArrayVec<u8, HELD>, writer: &mut Watched<W>)
     put(b"\\u001b[0m", held, writer);
 }
 
-/// Writes how a row begins.
+/// Writes how a row begins. Most lines have a number of two digits.
 fn put_opening<W: Write>(line: u8, held: &mut ArrayVec<u8, HELD>, writer: &mut Watched<W>)
     ensures { Wrote W.contents writer.old held.old.items writer.new held.new.items
         (json (row_opening line)) }
 {
-    put(b"\\u001b[", held, writer);
-    put_number(usize::from(line), held, writer);
-    put(b";1H\\u001b[0m\\u001b[2K", held, writer);
+    if has_two_digits(line) {
+        put(&opening_of(line), held, writer);
+    } else {
+        put(b"\\u001b[", held, writer);
+        put_number(usize::from(line), held, writer);
+        put(b";1H\\u001b[0m\\u001b[2K", held, writer);
+    }
+}
+
+/// Whether a number has two digits.
+fn has_two_digits(number: u8) -> bool
+    ensures low { result ≡ true → 10 ≤ number }
+    ensures high { result ≡ true → number < 100 }
+{
+    10 <= number && number < 100
+}
+
+/// How the row of a line begins whose number has two digits.
+fn opening_of(line: u8) -> [u8; OPENING]
+    requires low { 10 ≤ line }
+    requires high { line < 100 }
+    ensures { result ≡ json (row_opening line) }
+{
+    let mut opening = *b"\\u001b[00;1H\\u001b[0m\\u001b[2K";
+    opening[7] = b'0' + line / 10;
+    opening[8] = b'0' + line % 10;
+    opening
 }
 
 /// Writes the ground right of a row's inked cells, where the screen is reversed.

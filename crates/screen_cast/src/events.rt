@@ -18,14 +18,17 @@ ghost use Rattle.screen_cast.specs.Events.{
   resizes,
   size_text,
 };
+ghost use Rattle.screen_cast.specs.Texts.{AreTexts};
 
 use crate::drawn::put_drawn;
+use crate::shown::Shown;
+use crate::texts::RunsText;
 use arrayvec::ArrayVec;
 use held::{HELD, let_out, put, put_byte};
-use screen_print::{ChunkPrinter, Still};
 use std::io::Write;
 use tape_core::laws::gives_join;
 use tape_core::{Watched, seconds_text};
+use vt_screen::Screen;
 use vt_screen::limits::LINES;
 use vt_term::Terminal;
 
@@ -34,50 +37,36 @@ const EVERY_LINE: [u8; LINES as usize] = [
     1, 2, 3, 4, 5, 6, 7, 8, 9, 10, 11, 12, 13, 14, 15, 16, 17, 18, 19, 20, 21, 22, 23, 24,
 ];
 
-/// Writes the events of a chunk.
-pub(crate) struct EventPrinter;
-
-impl ChunkPrinter for EventPrinter {
-    ghost use Rattle.screen_cast.specs.Cast.{chunk_text};
-
-    ghost text = { λ _. chunk_text };
-
-    fn put<W: Write>(
-        &self,
-        _index: usize,
-        due: u64,
-        before: &Still,
-        after: &Terminal,
-        lines: &[u8],
-        writer: &mut Watched<W>,
-    ) {
-        put_events(due, before, after, lines, writer);
-    }
-}
-
 /// Writes the events of a chunk by what stands before and after it, which differ in these lines.
-fn put_events<W: Write>(
+pub(crate) fn put_events<W: Write>(
     due: u64,
-    before: &Still,
+    before: &Shown,
     after: &Terminal,
+    screen: &Screen,
     lines: &[u8],
+    texts: &mut [RunsText],
     writer: &mut Watched<W>,
 )
+    requires shown { screen.now.picture ≡ after.now.console.picture }
     requires changed { lines.now
-        ≡ changed_lines before.now.rows after.now.console.picture.rows }
-    ensures { let after = still_of after.now.console in Gave W.contents writer.old writer.new
-        (flat_map event_line (resizes due before.now after)
-        ++ flat_map event_line (outputs due before.now after)) }
+        ≡ changed_lines before.now.still.rows after.now.console.picture.rows }
+    requires texts { AreTexts after.now.console.modes.reverse_screen screen.now.order
+        screen.now.picture.rows texts.old }
+    ensures texts { AreTexts after.now.console.modes.reverse_screen screen.now.order
+        screen.now.picture.rows texts.new }
+    ensures gave { let after = still_of after.now.console in Gave W.contents writer.old writer.new
+        (flat_map event_line (resizes due before.now.still after)
+        ++ flat_map event_line (outputs due before.now.still after)) }
 {
     gives_join::<W>();
     put_resize(due, before, after, writer);
-    put_output(due, before, after, lines, writer);
+    put_output(due, before, after, screen, lines, texts, writer);
 }
 
 /// Writes the screen's new size, where the columns differ.
-fn put_resize<W: Write>(due: u64, before: &Still, after: &Terminal, writer: &mut Watched<W>)
+fn put_resize<W: Write>(due: u64, before: &Shown, after: &Terminal, writer: &mut Watched<W>)
     ensures { Gave W.contents writer.old writer.new
-        (flat_map event_line (resizes due before.now (still_of after.now.console))) }
+        (flat_map event_line (resizes due before.now.still (still_of after.now.console))) }
 {
     gives_join::<W>();
     let wide = after.screen().is_wide();
@@ -112,28 +101,35 @@ fn size_text(wide: bool) -> &'static [u8]
 /// Writes what is drawn, where there is something to draw.
 fn put_output<W: Write>(
     due: u64,
-    before: &Still,
+    before: &Shown,
     after: &Terminal,
+    screen: &Screen,
     lines: &[u8],
+    texts: &mut [RunsText],
     writer: &mut Watched<W>,
 )
+    requires shown { screen.now.picture ≡ after.now.console.picture }
     requires changed { lines.now
-        ≡ changed_lines before.now.rows after.now.console.picture.rows }
-    ensures { Gave W.contents writer.old writer.new
-        (flat_map event_line (outputs due before.now (still_of after.now.console))) }
+        ≡ changed_lines before.now.still.rows after.now.console.picture.rows }
+    requires texts { AreTexts after.now.console.modes.reverse_screen screen.now.order
+        screen.now.picture.rows texts.old }
+    ensures texts { AreTexts after.now.console.modes.reverse_screen screen.now.order
+        screen.now.picture.rows texts.new }
+    ensures gave { Gave W.contents writer.old writer.new
+        (flat_map event_line (outputs due before.now.still (still_of after.now.console))) }
 {
     gives_join::<W>();
     let drawn = drawn_lines(before, after, lines);
     if drawn.is_empty() && before.cursor() == after.screen().cursor() {
         return;
     }
-    put_drawing(due, after, drawn, writer);
+    put_drawing(due, after, screen, drawn, texts, writer);
 }
 
 /// The lines that are drawn: all, or those that differ.
-fn drawn_lines<'a>(before: &Still, after: &Terminal, lines: &'a [u8]) -> &'a [u8]
-    requires { lines.now ≡ changed_lines before.now.rows after.now.console.picture.rows }
-    ensures drawn { result.now ≡ drawn_lines before.now (still_of after.now.console) }
+fn drawn_lines<'a>(before: &Shown, after: &Terminal, lines: &'a [u8]) -> &'a [u8]
+    requires { lines.now ≡ changed_lines before.now.still.rows after.now.console.picture.rows }
+    ensures drawn { result.now ≡ drawn_lines before.now.still (still_of after.now.console) }
     ensures lines { All (λ line. (1 ≤ line) × (line ≤ LINES)) result.now }
 {
     if is_all_drawn(before, after) {
@@ -144,23 +140,35 @@ fn drawn_lines<'a>(before: &Still, after: &Terminal, lines: &'a [u8]) -> &'a [u8
 }
 
 /// Whether every row is drawn: the columns or the reversed flag differ.
-fn is_all_drawn(before: &Still, after: &Terminal) -> bool
-    ensures { result ≡ is_all_drawn before.now (still_of after.now.console) }
+fn is_all_drawn(before: &Shown, after: &Terminal) -> bool
+    ensures { result ≡ is_all_drawn before.now.still (still_of after.now.console) }
 {
     before.is_wide() != after.screen().is_wide()
         || before.is_reversed() != after.modes().reverse_screen
 }
 
 /// Writes the event that draws these lines and the cursor.
-fn put_drawing<W: Write>(due: u64, after: &Terminal, lines: &[u8], writer: &mut Watched<W>)
+fn put_drawing<W: Write>(
+    due: u64,
+    after: &Terminal,
+    screen: &Screen,
+    lines: &[u8],
+    texts: &mut [RunsText],
+    writer: &mut Watched<W>,
+)
+    requires shown { screen.now.picture ≡ after.now.console.picture }
     requires lines { All (λ line. (1 ≤ line) × (line ≤ LINES)) lines.now }
-    ensures { Gave W.contents writer.old writer.new
+    requires texts { AreTexts after.now.console.modes.reverse_screen screen.now.order
+        screen.now.picture.rows texts.old }
+    ensures texts { AreTexts after.now.console.modes.reverse_screen screen.now.order
+        screen.now.picture.rows texts.new }
+    ensures gave { Gave W.contents writer.old writer.new
         (event_line (output due (drawn_text (still_of after.now.console) lines.now))) }
 {
     gives_join::<W>();
     let mut held = ArrayVec::new();
     put_opening(due, &mut held, writer);
-    put_drawn(after, lines, &mut held, writer);
+    put_drawn(after, screen, lines, texts, &mut held, writer);
     put_closing(&mut held, writer);
     let_out(&mut held, writer);
 }

@@ -1,30 +1,23 @@
 //! Characters as they stand in a string of JSON.
 
-ghost use Rattle.std.specs.Prelude.{encode_utf8};
-ghost use Rattle.held.specs.Held.{Wrote};
+ghost use Rattle.std.specs.Prelude.{◌≡◌, ◌≤◌, ◌+◌, ◌++◌, encode_utf8, length};
 ghost use Rattle.screen_rows.specs.Glyphs.{character};
 ghost use Rattle.screen_cast.specs.Json.{json};
 
+use crate::runs::RUNS_BYTES;
 use arrayvec::ArrayVec;
-use held::{HELD, put, put_byte};
-use screen_rows::character;
-use std::io::Write;
-use tape_core::Watched;
+use screen_rows::{character, push_bytes};
 
-/// Writes the character of a glyph. Only two are escaped, and none is a control character.
-#[tactic(auto, using(crate::proofs::JsonLemmas::glyph_stands, crate::proofs::JsonLemmas::ascii_glyph_stands))]
-pub(crate) fn put_glyph<W: Write>(glyph: u8, held: &mut ArrayVec<u8, HELD>, writer: &mut Watched<W>)
-    ensures { Wrote W.contents writer.old held.old.items writer.new held.new.items
-        (json (encode_utf8 (character glyph))) }
+/// The character of a glyph. Only two are escaped, and none is a control character.
+pub(crate) fn push_glyph(text: &mut ArrayVec<u8, RUNS_BYTES>, glyph: u8)
+    requires room { length text.old.items + 3 ≤ RUNS_BYTES }
+    ensures text { text.new.items ≡ text.old.items ++ json (encode_utf8 (character glyph)) }
+    ensures short { length text.new.items ≤ length text.old.items + 3 }
 {
     match glyph {
-        b'"' => put(b"\\\"", held, writer),
-        b'\\' => put(b"\\\\", held, writer),
-        b' '..=b'~' => put_byte(glyph, held, writer),
-        _ => put(
-            character(glyph).encode_utf8(&mut [0; 4]).as_bytes(),
-            held,
-            writer,
-        ),
+        b'"' => push_bytes(text, b"\\\""),
+        b'\\' => push_bytes(text, b"\\\\"),
+        b' '..=b'~' => text.push(glyph),
+        _ => push_bytes(text, character(glyph).encode_utf8(&mut [0; 4]).as_bytes()),
     }
 }

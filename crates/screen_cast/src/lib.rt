@@ -6,5 +6,8 @@ mod drawn;
 mod events;
 mod json;
 mod runs;
+mod shown;
+mod texts;
+mod visitor;
 
 pub use cast_file::cast;

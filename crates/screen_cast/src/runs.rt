@@ -1,83 +1,74 @@
-//! Runs of a row, written as they stand in a string of JSON.
+//! Runs of a row, laid out as they stand in a string of JSON.
 
-ghost use Rattle.std.specs.Prelude.{◌≡◌, length};
+ghost use Rattle.std.specs.Prelude.{◌≡◌, ◌≤◌, ◌+◌, ◌*◌, ◌++◌, [], length};
 ghost use Rattle.std.specs.List.{flat_map};
-ghost use Rattle.held.specs.Held.{Wrote};
 ghost use Rattle.screen_print.specs.EscapedText.{rendition_set_text};
 ghost use Rattle.screen_rows.specs.Plain.{glyphs_of};
-ghost use Rattle.screen_rows.specs.Runs.{IsRun, cells_of, runs_of};
-ghost use Rattle.screen_rows.specs.Texts.{text_where};
+ghost use Rattle.screen_rows.specs.Runs.{IsRun, cells_of};
 ghost use Rattle.screen_cast.specs.Drawn.{attributes_in, cell_text, is_either};
 ghost use Rattle.screen_cast.specs.Json.{json};
-ghost use Rattle.screen_cast.specs.Parts.{run_part};
+ghost use Rattle.screen_cast.specs.Parts.{run_part, runs_part};
 
-use crate::json::put_glyph;
+use crate::json::push_glyph;
 use arrayvec::ArrayVec;
-use held::{HELD, put, put_byte};
-use screen_rows::{CELLS, Kind, Run, are_plain, cells_of, glyphs_of, glyphs_of_run, inked, run_at};
-use std::io::Write;
-use tape_core::Watched;
+use screen_rows::{
+    CELLS, Kind, Run, are_plain, cells_of, glyphs_of, glyphs_of_run, inked, push_bytes,
+    push_bytes_where, run_at,
+};
 use vt_screen::limits::WIDE_COLUMNS;
 use vt_screen::{Cell, Row, Size};
 
-/// Writes the runs of a row.
-pub(crate) fn put_runs<W: Write>(
-    reversed: bool,
-    row: &Row,
-    held: &mut ArrayVec<u8, HELD>,
-    writer: &mut Watched<W>,
-)
+/// How many bytes the runs of a row take at most: for each of 132 cells 17 of SGR, three of a character, and a space.
+pub(crate) const RUNS_BYTES: usize = 2772;
+
+/// The runs of a row.
+pub(crate) fn push_runs(text: &mut ArrayVec<u8, RUNS_BYTES>, reversed: bool, row: &Row)
     requires whole { length row.now.cells ≡ WIDE_COLUMNS }
-    ensures { Wrote W.contents writer.old held.old.items writer.new held.new.items
-        (flat_map (run_part reversed row.now) (runs_of row.now)) }
+    requires none { text.old.items ≡ [] }
+    ensures { text.new.items ≡ runs_part reversed row.now }
 {
     let glyphs = glyphs_of(row);
     let cells = inked(&row.cells);
     let mut before = 0;
     while before < cells.len() {
         let run = run_at(cells, before);
-        put_run(reversed, row, &glyphs, run, held, writer);
+        push_run(text, reversed, row, &glyphs, run);
         before += usize::from(run.len);
     }
 }
 
-/// Writes a run of a row, of which the glyphs are known: SGR, and its characters.
-#[tactic(auto, unfolding(crate::specs::Json::json))]
-fn put_run<W: Write>(
+/// A run of a row, of which the glyphs are known: SGR, and its characters.
+fn push_run(
+    text: &mut ArrayVec<u8, RUNS_BYTES>,
     reversed: bool,
     row: &Row,
     glyphs: &[u8; CELLS],
     run: Run,
-    held: &mut ArrayVec<u8, HELD>,
-    writer: &mut Watched<W>,
 )
     requires whole { length row.now.cells ≡ WIDE_COLUMNS }
     requires glyphs { glyphs.now ≡ glyphs_of row.now.cells }
     requires run { IsRun run }
-    ensures { Wrote W.contents writer.old held.old.items writer.new held.new.items
-        (run_part reversed row.now run) }
+    requires room { length text.old.items + 21 * run.len ≤ RUNS_BYTES }
+    ensures text { text.new.items ≡ text.old.items ++ run_part reversed row.now run }
+    ensures short { length text.new.items ≤ length text.old.items + 21 * run.len }
 {
-    put_rendition(reversed, run.kind, held, writer);
-    put_text(row, glyphs, run, held, writer);
+    push_rendition(text, reversed, run.kind);
+    push_text(text, row, glyphs, run);
 }
 
-/// Writes SGR.
-#[tactic(auto, unfolding(crate::specs::Json::json))]
-fn put_rendition<W: Write>(
-    reversed: bool,
-    kind: Kind,
-    held: &mut ArrayVec<u8, HELD>,
-    writer: &mut Watched<W>,
-)
-    ensures { Wrote W.contents writer.old held.old.items writer.new held.new.items
-        (json (rendition_set_text (attributes_in reversed kind))) }
+/// SGR.
+fn push_rendition(text: &mut ArrayVec<u8, RUNS_BYTES>, reversed: bool, kind: Kind)
+    requires room { length text.old.items + 17 ≤ RUNS_BYTES }
+    ensures text { text.new.items
+        ≡ text.old.items ++ json (rendition_set_text (attributes_in reversed kind)) }
+    ensures short { length text.new.items ≤ length text.old.items + 17 }
 {
-    put(b"\\u001b[0", held, writer);
-    put_where(kind.bold, b";1", held, writer);
-    put_where(kind.underscore, b";4", held, writer);
-    put_where(kind.blink, b";5", held, writer);
-    put_where(is_either(reversed, kind.reverse), b";7", held, writer);
-    put_byte(b'm', held, writer);
+    push_bytes(text, b"\\u001b[0");
+    push_bytes_where(text, kind.bold, b";1");
+    push_bytes_where(text, kind.underscore, b";4");
+    push_bytes_where(text, kind.blink, b";5");
+    push_bytes_where(text, is_either(reversed, kind.reverse), b";7");
+    text.push(b'm');
 }
 
 /// Whether one of two is so, and not both.
@@ -87,73 +78,42 @@ fn is_either(one: bool, other: bool) -> bool
     one != other
 }
 
-/// Writes bytes, or none.
-fn put_where<W: Write>(
-    holds: bool,
-    bytes: &[u8],
-    held: &mut ArrayVec<u8, HELD>,
-    writer: &mut Watched<W>,
-)
-    ensures { Wrote W.contents writer.old held.old.items writer.new held.new.items
-        (text_where holds bytes.now) }
-{
-    if holds {
-        put(bytes, held, writer);
-    }
-}
-
-/// Writes the characters of a run: at once where each stands for itself.
-#[tactic(auto, unfolding(crate::specs::Json::json))]
-fn put_text<W: Write>(
-    row: &Row,
-    glyphs: &[u8; CELLS],
-    run: Run,
-    held: &mut ArrayVec<u8, HELD>,
-    writer: &mut Watched<W>,
-)
+/// The characters of a run: at once where each stands for itself.
+fn push_text(text: &mut ArrayVec<u8, RUNS_BYTES>, row: &Row, glyphs: &[u8; CELLS], run: Run)
     requires whole { length row.now.cells ≡ WIDE_COLUMNS }
     requires glyphs { glyphs.now ≡ glyphs_of row.now.cells }
     requires run { IsRun run }
-    ensures { Wrote W.contents writer.old held.old.items writer.new held.new.items
-        (json (flat_map (cell_text row.now.size) (cells_of row.now run))) }
+    requires room { length text.old.items + 4 * run.len ≤ RUNS_BYTES }
+    ensures text { text.new.items ≡ text.old.items
+        ++ json (flat_map (cell_text row.now.size) (cells_of row.now run)) }
+    ensures short { length text.new.items ≤ length text.old.items + 4 * run.len }
 {
     let bytes = glyphs_of_run(glyphs, run);
     if row.size.is_single() && are_plain(bytes) {
-        put(bytes, held, writer);
+        push_bytes(text, bytes);
     } else {
-        put_cells(row.size, cells_of(row, run), held, writer);
+        push_cells(text, row.size, cells_of(row, run));
     }
 }
 
-/// Writes the characters of cells on a line of this size.
-#[tactic(auto, unfolding(crate::specs::Json::json))]
-fn put_cells<W: Write>(
-    size: Size,
-    cells: &[Cell],
-    held: &mut ArrayVec<u8, HELD>,
-    writer: &mut Watched<W>,
-)
-    ensures { Wrote W.contents writer.old held.old.items writer.new held.new.items
-        (json (flat_map (cell_text size) cells.now)) }
+/// The characters of cells on a line of this size.
+fn push_cells(text: &mut ArrayVec<u8, RUNS_BYTES>, size: Size, cells: &[Cell])
+    requires room { length text.old.items + 4 * length cells.now ≤ RUNS_BYTES }
+    ensures text { text.new.items
+        ≡ text.old.items ++ json (flat_map (cell_text size) cells.now) }
+    ensures short { length text.new.items ≤ length text.old.items + 4 * length cells.now }
 {
     for cell in cells {
-        put_cell(size, *cell, held, writer);
+        push_cell(text, size, *cell);
     }
 }
 
-/// Writes the character of a cell, and a space behind it on the double sizes.
-#[tactic(auto, unfolding(crate::specs::Json::json))]
-fn put_cell<W: Write>(
-    size: Size,
-    cell: Cell,
-    held: &mut ArrayVec<u8, HELD>,
-    writer: &mut Watched<W>,
-)
-    ensures { Wrote W.contents writer.old held.old.items writer.new held.new.items
-        (json (cell_text size cell)) }
+/// The character of a cell, and a space behind it on the double sizes.
+fn push_cell(text: &mut ArrayVec<u8, RUNS_BYTES>, size: Size, cell: Cell)
+    requires room { length text.old.items + 4 ≤ RUNS_BYTES }
+    ensures text { text.new.items ≡ text.old.items ++ json (cell_text size cell) }
+    ensures short { length text.new.items ≤ length text.old.items + 4 }
 {
-    put_glyph(cell.glyph, held, writer);
-    if !size.is_single() {
-        put_byte(b' ', held, writer);
-    }
+    push_glyph(text, cell.glyph);
+    push_bytes_where(text, !size.is_single(), b" ");
 }

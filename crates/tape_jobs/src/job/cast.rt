@@ -49,7 +49,7 @@ fn write_drawn<O: Write>(
     ensures flushed { OnOk result (is_flushed out.new ≡ true) }
 {
     let session = open_session(alloc, recording, EVERY, profile)?;
-    screen_cast::cast(&mut ManuallyDrop::new(session), out)?;
+    screen_cast::cast(alloc, &mut ManuallyDrop::new(session), out)?;
     Ok(())
 }
 
