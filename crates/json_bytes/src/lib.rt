@@ -13,8 +13,6 @@ mod values;
 pub use arrays::bytes_in;
 pub use marks::{is_space, past_mark, past_space};
 pub use members::{Member, named, whole_members};
-pub use numbers::{
-    PlainNumber, count_digits, plain_digits, read_number, scaled_number, split_digits,
-};
+pub use numbers::{PlainNumber, count_digits, plain_digits, read_number, scaled_number};
 pub use strings::{StringBytes, read_string, string_in};
 pub use values::{DEEPEST, ReadValue, member, read_value, value_end, whole_triple, whole_value};

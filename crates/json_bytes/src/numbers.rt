@@ -55,7 +55,7 @@ pub fn count_digits(text: &[u8]) -> (u64, usize)
 }
 
 /// The digits at the front, and what stands behind them.
-pub fn split_digits(text: &[u8]) -> (&[u8], &[u8])
+fn split_digits(text: &[u8]) -> (&[u8], &[u8])
     ensures digits { result.0.now ≡ digits_of text.now }
     ensures rest { result.1.now ≡ past_digits text.now }
     ensures all { AllPass is_ascii_digit result.0.now }

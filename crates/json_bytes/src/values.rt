@@ -166,7 +166,7 @@ impl ReadValue<'_> {
     }
 
     /// What these digits write, and how many they are; a number above 10^18 counts as 10^18.
-    #[inline]
+    #[inline(always)]
     pub fn plain_count(&self) -> Option<(u64, usize)>
         ensures { MatchOption result
             ((depth : ℕ) → option_and_then plain_digits (number_of (Some (valued depth self.now))) ≡ None)

@@ -1,9 +1,9 @@
 -- Outputs that are taken one after another, up to the first with a fault: what they add to the body.
-use Rattle.std.proofs.Common.{◌≡◌, ℕ, zero, suc, ◌+◌, List, [], ◌∷◌, ◌++◌, length, take, drop, Option, Some, None, refl, ap, sym, ◌∙◌, append-nil, append_assoc}
+use Rattle.std.proofs.Common.{◌≡◌, ℕ, zero, suc, List, [], ◌∷◌, ◌++◌, length, take, drop, Option, Some, None, refl, ap, sym, ◌∙◌, append-nil, append_assoc}
 use Rattle.tape_core.specs.Tape.{body}
 use Rattle.tape_core.specs.declared.chunk.Chunk.{Chunk}
-use Rattle.tape_import.specs.Law.{BeginWithFault, EndAtFault, bytes_of}
-use Rattle.tape_import.specs.Outputs.{Outputs, output_fault, with_output}
+use Rattle.tape_import.specs.Law.{EndAtFault, bytes_of}
+use Rattle.tape_import.specs.Outputs.{Outputs, output_fault}
 use Rattle.tape_import.specs.declared.fault.EventFault.{EventFault}
 
 -- so many of these outputs were added to chunks, and what isn't taken begins with the fault

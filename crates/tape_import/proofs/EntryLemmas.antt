@@ -1,9 +1,8 @@
 -- The entries of an asciicast of version 1, one after another: what they add to the body.
-use Rattle.std.proofs.Common.{◌≡◌, ℕ, zero, suc, ◌+◌, Bool, true, false, List, [], ◌∷◌, codes, length, take, drop, nat_eq, Option, Some, None, if◌then◌else◌, refl, ap, subst, sym, ◌∙◌, arith}
+use Rattle.std.proofs.Common.{◌≡◌, ℕ, zero, suc, ◌+◌, Bool, true, false, List, [], ◌∷◌, codes, length, take, drop, nat_eq, Option, Some, None, if◌then◌else◌, refl, ap, subst, ◌∙◌, arith}
 use Rattle.std.specs.Option.{option_and_then, option_map, option_or}
 use Rattle.json_bytes.specs.Marks.{past_mark, past_space}
 use Rattle.json_bytes.specs.Values.{Json, Read, value}
-use Rattle.tape_core.specs.Tape.{body}
 use Rattle.tape_import.specs.Asciicast.{is_word}
 use Rattle.tape_import.specs.AsciicastOne.{Ending, Reader, SoFar, asciicast_one_of, at_brace, behind_member, behind_object, ends, entries_begin, entry_at, entry_by, entry_follows, entry_taken, member_by, member_follows, members_begin, object_by, one_inside, stdout_by, string_then, those_inside, value_by, whole, with_entry, with_value}
 use Rattle.tape_import.specs.EntriesOne.{From, array_outputs, entry_outputs, first_outputs, member_outputs, next_member, next_outputs, object_outputs, outputs_at, outputs_inside, outputs_of, stdout_outputs, value_outputs}

@@ -4,7 +4,7 @@ use Rattle.json_bytes.specs.Listed.{valued}
 use Rattle.json_bytes.specs.Strings.{meant}
 use Rattle.json_bytes.specs.Values.{string_of}
 use Rattle.tape_import.specs.Asciicast.{date_of, term_of}
-use Rattle.tape_import.specs.TlogMessage.{Message, count_of, given_bytes, given_text, head_of, is_versioned, message_by, message_told, shown_of, stream_by, typed_of}
+use Rattle.tape_import.specs.TlogMessage.{count_of, head_of, is_versioned, message_by, message_told, shown_of, stream_by, typed_of}
 use Rattle.tape_import.specs.TlogTiming.{Stream}
 use Rattle.tape_import.specs.declared.tlog_message.Head.{Head}
 use Rattle.std.proofs.Common.{◌≡◌, ◌≢◌, Bool, true, false, List, ℕ, codes, length, nat_eq, take, Option, Some, None, if◌then◌else◌, refl, ap, sym, ◌∙◌, arith}

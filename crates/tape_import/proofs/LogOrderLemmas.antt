@@ -1,5 +1,5 @@
 -- That what a front of a recording of tlog is refused for the whole is refused for too.
-use Rattle.std.proofs.Common.{◌≡◌, ℕ, ◌+◌, ◌-◌, ◌≤◌, ◌&&◌, ◌==◌, Bool, true, false, List, [], ◌∷◌, ◌++◌, length, nat_eq, nat_lt, Option, Some, None, IfSome, if◌then◌else◌, ◌⊎◌, inl, inr, refl, ap, subst, sym, ◌∙◌, arith}
+use Rattle.std.proofs.Common.{◌≡◌, ℕ, ◌+◌, ◌≤◌, Bool, true, false, List, [], ◌∷◌, ◌++◌, length, nat_eq, nat_lt, Option, Some, None, IfSome, if◌then◌else◌, inl, inr, refl, ap, subst, sym, ◌∙◌, arith}
 use Rattle.std.specs.Option.{option_and_then, option_map, option_or}
 use Rattle.std.proofs.lemmas.Option.{same_Some}
 use Rattle.tape_core.specs.Text.{lines_of}
@@ -25,7 +25,7 @@ use Rattle.tape_import.specs.declared.tlog.Log.{Log}
 use Rattle.tape_import.specs.declared.tlog.LogFront.{LogFront}
 use Rattle.tape_import.specs.declared.tlog_message.Head.{Head}
 use Rattle.tape_import.specs.declared.version.Version.TheVariants as version
-use Rattle.tape_import.proofs.FrontLemmas.{AllBlank, Headed, Split, lined, same_number, split}
+use Rattle.tape_import.proofs.FrontLemmas.{AllBlank, Split, lined, same_number, split}
 use Rattle.tape_import.proofs.OrderLemmas.{Slower, fault_by, found_slower, is_among, line_alone, slow_alone, still_slow, wider}
 
 -- events of a line stand in it

@@ -1,5 +1,5 @@
 -- The outputs of a recording of tlog, message by message: what they add to the body.
-use Rattle.std.proofs.Common.{◌≡◌, ℕ, zero, suc, ◌+◌, ◌-◌, ◌≤◌, ◌&&◌, ◌==◌, Bool, true, false, List, [], ◌∷◌, ◌++◌, length, take, drop, Option, Some, None, if◌then◌else◌, ◌⊎◌, inl, inr, refl, ap, subst, sym, ◌∙◌, arith, append-nil, append_assoc}
+use Rattle.std.proofs.Common.{◌≡◌, ℕ, suc, ◌+◌, ◌-◌, ◌≤◌, ◌&&◌, ◌==◌, Bool, true, false, List, [], ◌∷◌, ◌++◌, length, take, drop, Option, Some, None, if◌then◌else◌, inl, inr, refl, ap, subst, sym, ◌∙◌, arith, append-nil, append_assoc}
 use Rattle.std.specs.List.{flat_map}
 use Rattle.std.proofs.lemmas.Grind.{flat_map-append}
 use Rattle.tape_core.specs.Tape.{body}
@@ -17,7 +17,6 @@ use Rattle.tape_import.specs.declared.event.What.{What}
 use Rattle.tape_import.specs.declared.event.What.TheVariants as what
 use Rattle.tape_import.specs.declared.fault.EventFault.{EventFault}
 use Rattle.tape_import.specs.declared.fault.EventFault.TheVariants as event
-use Rattle.tape_import.specs.declared.losses.Left.{Left}
 use Rattle.tape_import.specs.declared.tlog.Log.{Log}
 use Rattle.tape_import.specs.declared.tlog.LogFront.{LogFront}
 use Rattle.tape_import.specs.declared.tlog_message.Head.{Head}

@@ -1,5 +1,5 @@
 -- The members of an object, one after another: what they tell, and where it ends.
-use Rattle.std.proofs.Common.{◌≡◌, ℕ, suc, ◌+◌, ◌-◌, ◌<◌, List, length, Option, Some, None, refl, ap, ◌∙◌, arith}
+use Rattle.std.proofs.Common.{◌≡◌, ℕ, suc, ◌+◌, ◌-◌, ◌<◌, List, length, Option, Some, None, refl, arith}
 use Rattle.json_bytes.specs.Marks.{past_mark}
 use Rattle.json_bytes.specs.Values.{Json, Members, Read, as_part, behind, member, members, named_value, object_at}
 use Rattle.json_bytes.proofs.MemberLemmas.{named_in}

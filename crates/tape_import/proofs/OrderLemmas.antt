@@ -1,12 +1,10 @@
 -- That what a front is refused for the whole is refused for too.
-use Rattle.std.proofs.Common.{◌≡◌, ℕ, zero, suc, ◌+◌, ◌-◌, ◌<◌, ◌≤◌, ◌&&◌, ◌==◌, Bool, true, false, List, [], ◌∷◌, ◌++◌, length, nat_eq, nat_lt, Option, Some, None, IfSome, if◌then◌else◌, ◌⊎◌, inl, inr, refl, ap, subst, sym, ◌∙◌, arith, length-append}
-use Rattle.std.specs.Option.{option_and_then, option_map, option_or}
+use Rattle.std.proofs.Common.{◌≡◌, ℕ, ◌+◌, ◌≤◌, Bool, true, false, List, [], ◌∷◌, ◌++◌, length, nat_eq, Option, Some, None, IfSome, if◌then◌else◌, ◌⊎◌, inl, inr, refl, ap, subst, sym, ◌∙◌, arith}
+use Rattle.std.specs.Option.{option_map, option_or}
 use Rattle.tape_core.specs.Text.{lines_of}
 use Rattle.json_bytes.specs.Values.{json_of}
-use Rattle.tape_import.specs.Asciicast.{at_header, at_moment, cast_of, event_of, events, header_line, header_number, in_time, is_blank_line, is_in_force, is_skipped, left_from, line_fault, on_line, past_header, told_size, what_fault, with_event, with_found, with_line, with_resize, with_what}
-use Rattle.tape_import.specs.FaultOrder.{CastKeepsItsFault, IsWithin, KeepsItsFault, LogKeepsItsFault}
-use Rattle.tape_import.specs.Imported.{slow_at}
-use Rattle.tape_import.specs.ImportedCast.{cast_losses}
+use Rattle.tape_import.specs.Asciicast.{at_header, at_moment, cast_of, event_of, events, header_line, header_number, in_time, is_in_force, is_skipped, left_from, line_fault, on_line, past_header, told_size, with_found, with_line, with_resize, with_what}
+use Rattle.tape_import.specs.FaultOrder.{CastKeepsItsFault, IsWithin}
 use Rattle.tape_import.specs.Law.{EndsLine}
 use Rattle.tape_import.specs.Outputs.{Outputs, is_slow, with_output}
 use Rattle.tape_import.specs.Refusal.{first_fault}
@@ -26,7 +24,7 @@ use Rattle.tape_import.specs.declared.version.Version.{Version}
 use Rattle.tape_import.specs.declared.version.Version.TheVariants as version
 use Rattle.tape_import.proofs.CastLemmas.{line_ends, line_taken}
 use Rattle.std.proofs.lemmas.Option.{same_Some}
-use Rattle.tape_import.proofs.FrontLemmas.{AllBlank, Headed, Split, from_header, headed_whole, lined, none_past, same_number, split}
+use Rattle.tape_import.proofs.FrontLemmas.{Split, from_header, headed_whole, lined, none_past, split}
 
 -- the place of the first delay that was cut stays, or is this one
 abbrev pub Slower : ℕ → Option ℕ → Option ℕ → Type 0

@@ -1,7 +1,6 @@
 -- What is taken off a stream that lies from a place on in its text and its bytes.
-use Rattle.std.proofs.Common.{◌≡◌, ℕ, zero, ◌+◌, Bool, true, false, List, [], length, take, drop, nat_le, Option, Some, None, refl, ap, sym, subst, ◌∙◌, arith, drop-drop}
+use Rattle.std.proofs.Common.{◌≡◌, ℕ, ◌+◌, true, false, List, [], length, take, drop, nat_le, Some, None, refl, ap, ◌∙◌, arith, drop-drop}
 use Rattle.std.proofs.lemmas.List.{drop_all, take_all}
-use Rattle.std.specs.Option.{option_map}
 use Rattle.tape_import.specs.TlogTiming.{Stream, bytes_taken, characters_len, text_taken}
 
 pub text_passed : (count len at next : ℕ) (text bytes : List ℕ) → characters_len count (drop at text) ≡ Some len → at + len ≡ next

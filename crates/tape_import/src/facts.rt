@@ -1,9 +1,5 @@
 //! What a recording tells of itself.
-ghost use Rattle.std.specs.Prelude.{◌≡◌, ◌≤◌, IfSome, MatchOption, min};
-ghost use Rattle.std.specs.Char.{is_ascii_digit};
-ghost use Rattle.std.specs.List.{AllPass};
-ghost use Rattle.std.specs.Option.{option_map};
-ghost use Rattle.tape_core.specs.Seconds.{last_moment};
+ghost use Rattle.std.specs.Prelude.{◌≡◌, ◌≤◌, IfSome, MatchOption};
 ghost use Rattle.tape_core.specs.Text.{number_of};
 ghost use Rattle.tape_import.specs.Facts.{asked_size, parted, reported_size, side, size_of, without_choice};
 ghost use Rattle.tape_import.specs.Kept.{IsSize};

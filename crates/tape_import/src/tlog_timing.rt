@@ -1,7 +1,6 @@
 //! The timing of a message of tlog: which of its characters and bytes came, or were typed, when.
 ghost use Rattle.std.specs.Prelude.{◌≡◌, ◌≤◌, ◌++◌, All, IfOk, IfSome, MatchOption, None, OnOk, Some, fold, length, max, true};
-ghost use Rattle.std.specs.Char.{is_ascii_digit};
-ghost use Rattle.std.specs.List.{AllPass, prefix_len};
+ghost use Rattle.std.specs.List.{prefix_len};
 ghost use Rattle.std.specs.Option.{option_map};
 ghost use Rattle.json_bytes.specs.Values.{as_part};
 ghost use Rattle.tape_import.specs.Asciicast.{sided};

@@ -1,5 +1,5 @@
-use Rattle.std.proofs.Common.{◌≡◌, ◌+◌, ◌-◌, ◌∙◌, ℕ, List, None, Option, Some, ap, arith, length, refl, subst, sym}
-use Rattle.json_bytes.specs.Values.{Json, behind, last_named, members, no_members, object_at, value}
+use Rattle.std.proofs.Common.{◌≡◌, ◌-◌, ◌∙◌, None, ap, arith, length, refl, subst, sym}
+use Rattle.json_bytes.specs.Values.{behind, last_named, members, no_members, object_at, value}
 use Rattle.json_bytes.proofs.MemberLemmas.{named_in, with_end, without_end}
 use Rattle.tape_import.specs.KeptTlog.{Tells, none_told, with_member}
 use Rattle.tape_import.proofs.ObjectLemmas.{inside, last_ends, last_told, next_ends, next_told, none_ends, open_ends}

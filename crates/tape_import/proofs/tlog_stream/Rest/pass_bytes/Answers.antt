@@ -1,4 +1,4 @@
-use Rattle.std.proofs.Common.{◌∙◌, ◌+◌, ◌-◌, arith, drop, length, sym, take}
+use Rattle.std.proofs.Common.{◌∙◌, ◌-◌, arith, length, sym, take}
 use Rattle.json_bytes.specs.Strings.{meant}
 use Rattle.tape_import.proofs.StreamLemmas.{bytes_passed}
 use Rattle.tape_import.specs.KeptTlog.{shown_stream}

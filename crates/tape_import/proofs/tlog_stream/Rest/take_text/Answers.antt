@@ -1,4 +1,4 @@
-use Rattle.std.proofs.Common.{◌≡◌, ◌∙◌, ◌-◌, Some, ap, arith, length, rules, sym}
+use Rattle.std.proofs.Common.{◌≡◌, ◌∙◌, ◌-◌, ap, arith, length, rules, sym}
 use Rattle.json_bytes.specs.Strings.{meant}
 use Rattle.tape_import.proofs.StreamLemmas.{all_taken}
 use Rattle.tape_import.specs.KeptTlog.{shown_stream}

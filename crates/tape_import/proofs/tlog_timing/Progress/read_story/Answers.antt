@@ -1,4 +1,4 @@
-use Rattle.std.proofs.Common.{◌≡◌, ◌+◌, ◌-◌, ◌++◌, ◌∙◌, All, IfSome, List, None, Some, [], ap, append-nil, append_assoc, arith, length, refl, subst, sym}
+use Rattle.std.proofs.Common.{◌+◌, ◌-◌, ◌++◌, ◌∙◌, All, IfSome, List, ap, append-nil, append_assoc, arith, length, refl, subst, sym}
 use Rattle.tape_import.specs.KeptCast.{IsSized}
 use Rattle.tape_import.specs.KeptTlog.{events_at, shown_progress, step_behind}
 use Rattle.tape_import.specs.TlogTiming.{Story, go_on, items}
