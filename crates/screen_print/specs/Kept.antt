@@ -11,14 +11,14 @@ pub record IsLike (seen other : Seen) : Type 0 where
 
 -- all stills are alike
 pub record AreAlike (kept : Kept) : Type 0 where
-  pub last : kept.last ≡ kept.first
-  pub before : kept.stills.before ≡ kept.first
-  pub after : kept.stills.after ≡ kept.first
+  pub last : kept.last.now ≡ kept.first.now
+  pub before : kept.stills.before.now ≡ kept.first.now
+  pub after : kept.stills.after.now ≡ kept.first.now
 
 -- the second terminal shows the same, and the first still is of it
 pub record IsCurrent (seen : Seen) (kept : Kept) : Type 0 where
-  pub like : IsLike seen kept.terminal
-  pub first : kept.first ≡ still_of seen.console
+  pub like : IsLike seen kept.terminal.now
+  pub first : kept.first.now ≡ still_of seen.console
 
 -- what is kept: stills that are alike, and where it is said to be current it is
 pub record IsKeptOf (seen : Seen) (kept : Kept) : Type 0 where

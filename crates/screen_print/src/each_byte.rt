@@ -257,19 +257,20 @@ fn put_between<W: Write>(
 
 /// Two stills that become what stands before a byte and behind it.
 #[derive(Drop)]
-struct Stills {
-    before: Still,
-    after: Still,
+struct Stills<'a> {
+    before: &'a mut Still,
+    after: &'a mut Still,
 }
 
 /// What is kept from chunk to chunk: stills that are alike, and a second terminal. Where it is current they are of the
-/// first terminal, and the second one shows the same.
+/// first terminal, and the second one shows the same. It borrows them, since a struct that is built of them would take
+/// their room on the stack twice.
 #[derive(Drop)]
-struct Kept {
-    terminal: Terminal,
-    first: Still,
-    last: Still,
-    stills: Stills,
+struct Kept<'a> {
+    terminal: &'a mut Terminal,
+    first: &'a mut Still,
+    last: &'a mut Still,
+    stills: Stills<'a>,
     current: bool,
     /// Whether the next chunk is one that keys don't pass.
     tried: bool,
@@ -401,7 +402,24 @@ fn put_rest<W: Write>(
 {
     gives_join::<W>();
     gives_end::<W>();
-    let mut kept = kept_of(terminal);
+    let mut second = Terminal::reset();
+    second.copy_from(terminal);
+    let mut first = Still::of(terminal);
+    let mut last = Still::of(terminal);
+    let mut before = Still::of(terminal);
+    let mut after = Still::of(terminal);
+    let mut kept = Kept {
+        terminal: &mut second,
+        first: &mut first,
+        last: &mut last,
+        stills: Stills {
+            before: &mut before,
+            after: &mut after,
+        },
+        current: true,
+        tried: true,
+        seen: Place::default(),
+    };
     let mut known = None;
     for index in start..end {
         known = put_chunk_at(
@@ -410,26 +428,6 @@ fn put_rest<W: Write>(
         if writer.failed() {
             return;
         }
-    }
-}
-
-/// What is kept of a terminal.
-fn kept_of(terminal: &Terminal) -> Kept
-    ensures { IsKeptOf terminal.now result }
-{
-    let mut second = Terminal::reset();
-    second.copy_from(terminal);
-    Kept {
-        terminal: second,
-        first: Still::of(terminal),
-        last: Still::of(terminal),
-        stills: Stills {
-            before: Still::of(terminal),
-            after: Still::of(terminal),
-        },
-        current: true,
-        tried: true,
-        seen: Place::default(),
     }
 }
 
@@ -443,7 +441,7 @@ fn put_chunk_at<'k, 'a, W: Write>(
     keys: &'k Keys<'a>,
     known: Option<&'k Key<'a>>,
     terminal: &mut Terminal,
-    kept: &mut Kept,
+    kept: &mut Kept<'_>,
     scratch: &mut Reports,
     writer: &mut Watched<W>,
 ) -> Option<&'k Key<'a>>
@@ -484,7 +482,7 @@ fn put_or_pass<'k, 'a, W: Write>(
     keys: &'k Keys<'a>,
     known: Option<&'k Key<'a>>,
     terminal: &mut Terminal,
-    kept: &mut Kept,
+    kept: &mut Kept<'_>,
     scratch: &mut Reports,
     writer: &mut Watched<W>,
 ) -> Option<&'k Key<'a>>
@@ -510,7 +508,7 @@ fn put_or_pass<'k, 'a, W: Write>(
             kept.current = false;
             return Some(next);
         }
-        terminal.copy_from(&kept.terminal);
+        terminal.copy_from(kept.terminal);
     }
     follow_stills(kept, terminal);
     put_next(text, start, chunk, bytes, terminal, kept, scratch, writer);
@@ -524,7 +522,7 @@ fn untried_key<'k, 'a>(
     start: &Start,
     keys: &'k Keys<'a>,
     known: Option<&'k Key<'a>>,
-    kept: &mut Kept,
+    kept: &mut Kept<'_>,
     terminal: &Terminal,
 ) -> Option<&'k Key<'a>>
     requires keys { AreKeysOf text.now keys.now }
@@ -541,10 +539,10 @@ fn untried_key<'k, 'a>(
 }
 
 /// The second terminal becomes like the first one, if it isn't yet.
-fn follow_terminal(kept: &mut Kept, terminal: &Terminal)
+fn follow_terminal(kept: &mut Kept<'_>, terminal: &Terminal)
     requires { IsKeptOf terminal.now kept.old }
     ensures kept { IsKeptOf terminal.now kept.new }
-    ensures like { IsLike terminal.now kept.new.terminal }
+    ensures like { IsLike terminal.now kept.new.terminal.now }
 {
     if !kept.current {
         kept.terminal.copy_from(terminal);
@@ -552,9 +550,9 @@ fn follow_terminal(kept: &mut Kept, terminal: &Terminal)
 }
 
 /// The stills become those of the terminal, and what is kept is current.
-fn follow_stills(kept: &mut Kept, terminal: &Terminal)
+fn follow_stills(kept: &mut Kept<'_>, terminal: &Terminal)
     requires kept { IsKeptOf terminal.now kept.old }
-    requires like { IsLike terminal.now kept.old.terminal }
+    requires like { IsLike terminal.now kept.old.terminal.now }
     ensures alike { AreAlike kept.new }
     ensures current { IsCurrent terminal.now kept.new }
 {
@@ -674,7 +672,7 @@ fn put_next<W: Write>(
     chunk: &Chunk,
     bytes: &[u8],
     terminal: &mut Terminal,
-    kept: &mut Kept,
+    kept: &mut Kept<'_>,
     scratch: &mut Reports,
     writer: &mut Watched<W>,
 )
@@ -692,15 +690,15 @@ fn put_next<W: Write>(
     ensures scratch { SCRATCH ≤ length scratch.new.bytes }
 {
     let _screen = terminal.screen();
-    play_all(&mut kept.terminal, bytes, scratch);
-    let changed = kept.first.lines_unlike(&kept.terminal);
+    play_all(kept.terminal, bytes, scratch);
+    let changed = kept.first.lines_unlike(kept.terminal);
     let lines = changed.as_slice();
-    kept.last.catch_up(&kept.terminal, lines);
+    kept.last.catch_up(kept.terminal, lines);
     let played = Played {
-        first: &kept.first,
-        last: &kept.last,
+        first: &*kept.first,
+        last: &*kept.last,
         lines,
-        terminal: &kept.terminal,
+        terminal: &*kept.terminal,
     };
     put_chunk(
         text,
@@ -713,7 +711,7 @@ fn put_next<W: Write>(
         scratch,
         writer,
     );
-    kept.first.catch_up(&kept.terminal, lines);
+    kept.first.catch_up(kept.terminal, lines);
 }
 
 /// Writes what went in a chunk, what came and went inside it, and what came. The terminal plays it, and both stills go
@@ -724,7 +722,7 @@ fn put_chunk<W: Write>(
     chunk: &Chunk,
     bytes: &[u8],
     played: Played<'_>,
-    stills: &mut Stills,
+    stills: &mut Stills<'_>,
     terminal: &mut Terminal,
     scratch: &mut Reports,
     writer: &mut Watched<W>,
@@ -737,15 +735,15 @@ fn put_chunk<W: Write>(
     requires last { played.last.now ≡ still_of played.terminal.now.console }
     requires changed { played.lines.now
         ≡ changed_lines played.first.now.rows played.terminal.now.console.picture.rows }
-    requires before { stills.old.before ≡ still_of terminal.old.console }
-    requires after { stills.old.after ≡ still_of terminal.old.console }
+    requires before { stills.old.before.now ≡ still_of terminal.old.console }
+    requires after { stills.old.after.now ≡ still_of terminal.old.console }
     requires scratch { SCRATCH ≤ length scratch.old.bytes }
     ensures gave { (x : Term) → Shows terminal.old x → Gave W.contents writer.old writer.new
         (chunk_lines text.now chunk.now.index chunk.now.due x bytes.now) }
     ensures shows { (x : Term) → Shows terminal.old x
         → Shows terminal.new (play x bytes.now) }
-    ensures before { stills.new.before ≡ still_of terminal.new.console }
-    ensures after { stills.new.after ≡ still_of terminal.new.console }
+    ensures before { stills.new.before.now ≡ still_of terminal.new.console }
+    ensures after { stills.new.after.now ≡ still_of terminal.new.console }
     ensures scratch { SCRATCH ≤ length scratch.new.bytes }
 {
     gives_join::<W>();
@@ -771,8 +769,8 @@ fn put_chunk<W: Write>(
         chunk,
         &ends,
         bytes,
-        &mut stills.before,
-        &mut stills.after,
+        stills.before,
+        stills.after,
         terminal,
         scratch,
         writer,
