@@ -22,14 +22,14 @@ late : (from : Option ℕ) (to due : ℕ) → to < due → is_asked from to due 
 late None to due h = lt-leb due to h
 late (Some from) to due h = both_false (nat_lt from due) (nat_le due to) (lt-leb due to h)
 
-early : DueIsBelowTheCount → (chunks : List Chunk) (from : Option ℕ) (to i : ℕ) → i < length chunks
+pub early : DueIsBelowTheCount → (chunks : List Chunk) (from : Option ℕ) (to i : ℕ) → i < length chunks
     → i < first_asked chunks from → is_asked from to (due_time chunks i) ≡ false
 early law chunks None to i within h = absurd (omega arith)
 early law chunks (Some from) to i within h =
     let due : due_time chunks i ≤ from = (law chunks from i within).1 h in
     rw (le-ltb from (due_time chunks i) due) refl
 
-asked : DueIsBelowTheCount → (chunks : List Chunk) (from : Option ℕ) (to i : ℕ) → i < length chunks
+pub asked : DueIsBelowTheCount → (chunks : List Chunk) (from : Option ℕ) (to i : ℕ) → i < length chunks
     → first_asked chunks from ≤ i → i < due_count chunks to → is_asked from to (due_time chunks i) ≡ true
 asked law chunks None to i within low h = le-leb (due_time chunks i) to ((law chunks to i within).1 h)
 asked law chunks (Some from) to i within low h =
@@ -40,7 +40,7 @@ asked law chunks (Some from) to i within low h =
     ])
     (le-leb (due_time chunks i) to ((law chunks to i within).1 h))
 
-past_due : DueIsBelowTheCount → (chunks : List Chunk) (from : Option ℕ) (to i : ℕ) → i < length chunks
+pub past_due : DueIsBelowTheCount → (chunks : List Chunk) (from : Option ℕ) (to i : ℕ) → i < length chunks
     → due_count chunks to ≤ i → is_asked from to (due_time chunks i) ≡ false
 past_due law chunks from to i within h =
     late from to (due_time chunks i)

@@ -1,4 +1,4 @@
 pub mod TextLemmas
 pub mod SeekLemmas
-mod AskedLemmas
+pub mod AskedLemmas
 mod ChangeLemmas

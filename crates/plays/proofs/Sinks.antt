@@ -17,6 +17,9 @@ same_sink bytes list place at same_bytes same_place = cc
 pub sends_nothing : (sink : Sink) → after_sending sink [] ≡ sink
 sends_nothing sink = same_sink _ _ _ _ (simp (drop-nil, append-nil)) (omega arith)
 
+pub stays_as_sent : (sink : Sink) (bytes : List ℕ) → bytes ≡ [] → sink ≡ after_sending sink bytes
+stays_as_sent sink bytes none = sym (ap (after_sending sink) none ∙ sends_nothing sink)
+
 -- two texts, one after the other, are sent as one
 pub after_sending-append : (sink : Sink) (first second : List ℕ)
     → after_sending (after_sending sink first) second ≡ after_sending sink (first ++ second)
@@ -41,3 +44,6 @@ keeps_trans a b c first second =
 
 pub keeps_sent : (sink : Sink) (bytes : List ℕ) → KeepsFront sink (after_sending sink bytes)
 keeps_sent sink bytes = take-append_seam sink.bytes (drop (length sink.bytes - sink.place) bytes)
+
+pub keeps_after : (a b : Sink) (bytes : List ℕ) → b ≡ after_sending a bytes → KeepsFront a b
+keeps_after a b bytes same = ap (λ (s : Sink). take (length a.bytes) s.bytes) same ∙ keeps_sent a bytes

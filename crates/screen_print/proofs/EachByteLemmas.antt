@@ -21,7 +21,7 @@ use Rattle.chunk_walk.specs.Stops.{first_asked}
 use Rattle.chunk_walk.specs.Walk.{asked_places, is_asked}
 use Rattle.screen_print.specs.Walk.{still_after}
 use Rattle.chunk_walk.proofs.TextLemmas.{passing_between, texts_from}
-use Rattle.screen_print.proofs.AskedLemmas.{asked, early, past_due}
+use Rattle.chunk_walk.proofs.AskedLemmas.{asked, early, past_due}
 
 append_none : (xs ys : List ℕ) → xs ++ ys ≡ [] → (xs ≡ []) × (ys ≡ [])
 append_none [] ys h = (refl, h)

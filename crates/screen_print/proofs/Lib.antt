@@ -11,7 +11,6 @@ mod StartLemmas
 mod EscapedLemmas
 mod InkLemmas
 pub mod Redrawn
-mod AskedLemmas
 mod NowhereLemmas
 mod StoodLemmas
 mod EachByteLemmas

@@ -26,7 +26,7 @@ use Rattle.screen_print.specs.Stills.{Still, still_of}
 use Rattle.chunk_walk.specs.Stops.{first_asked}
 use Rattle.chunk_walk.specs.Walk.{asked_places, is_asked}
 use Rattle.screen_print.specs.Walk.{still_after}
-use Rattle.screen_print.proofs.AskedLemmas.{asked}
+use Rattle.chunk_walk.proofs.AskedLemmas.{asked}
 
 -- ---- lists with nothing in them
 

@@ -1,4 +1,3 @@
-mod AskedLemmas
 mod BeganLemmas
 mod CalmLemmas
 mod LineLemmas

@@ -21,7 +21,7 @@ use Rattle.standings.specs.Rows.{Row}
 use Rattle.standings.specs.Standing.{count_left, gone, is_less, is_lone, left_of, passed, place_at, place_in, standing}
 use Rattle.text_find.specs.FindLines.{Screens, all_found, all_passed, found_from, found_in, found_of, lines_found, passed_at, rows_from, rows_within}
 use Rattle.text_find.specs.Lines.{IsStill, byte_lines, chunk_lines, chunk_lines_at, from_lines, less_line, less_lines, passed_line, passed_lines}
-use Rattle.text_find.proofs.AskedLemmas.{asked, early, past_due}
+use Rattle.chunk_walk.proofs.AskedLemmas.{asked, early, past_due}
 use Rattle.text_find.proofs.NowhereLemmas.{within_start, within_whole}
 
 -- ---- the lines of what is found

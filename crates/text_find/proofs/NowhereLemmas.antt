@@ -15,7 +15,7 @@ use Rattle.standings.specs.Standing.{gone, is_lone, left_of, less, passed, stand
 use Rattle.chunk_walk.specs.Stops.{first_asked}
 use Rattle.chunk_walk.specs.Walk.{asked_places, is_asked}
 use Rattle.text_find.specs.FindLines.{BeginsBlank, NowhereMeansNowhere, Screens, all_found, all_passed, found_from, found_in, found_of, has_ink, lines_found, passed_at, rows_from, rows_within}
-use Rattle.text_find.proofs.AskedLemmas.{asked}
+use Rattle.chunk_walk.proofs.AskedLemmas.{asked}
 
 -- ---- lists with nothing in them
 

@@ -5,7 +5,7 @@ use Rattle.std.proofs.lemmas.List.{append-nil, length-append, take-append-drop, 
 use Rattle.xterm_term.specs.Term.{Term, step, reply_to, play, sent}
 use Rattle.xterm_term.specs.Seen.{Seen, Shows}
 use Rattle.plays.specs.Sink.{Sink, after_sending, HasRoom, KeepsFront}
-use Rattle.xterm_term.proofs.Sinks.{after_sending-append, keeps_length}
+use Rattle.plays.proofs.Sinks.{after_sending-append, keeps_length}
 use Rattle.xterm_term.proofs.Steps.{plays_in_parts, sends_in_parts}
 
 pub play_on : (x : Term) (bytes : List ℕ) (at n : ℕ) → play x (take (at + n) bytes) ≡ play (play x (take at bytes)) (take n (drop at bytes))

@@ -1,6 +1,5 @@
 pub mod Safe
 pub mod Steps
-pub mod Sinks
 pub mod Feeding
 pub mod Parts
 pub mod Stays

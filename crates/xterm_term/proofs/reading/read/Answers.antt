@@ -6,7 +6,7 @@ use Rattle.xterm_term.specs.Term.{Outcome, read}
 use Rattle.xterm_term.specs.SameSize.{SameSize}
 use Rattle.xterm_term.specs.Reading.{ComesTo}
 use Rattle.xterm_term.proofs.ByteKinds.{titled, upper, other, come}
-use Rattle.xterm_term.proofs.Sinks.{sends_nothing}
+use Rattle.plays.proofs.Sinks.{stays_as_sent}
 use Rattle.xterm_term.proofs.Told.{upper_comes, upper_silent, upper_size}
 use Rattle.xterm_term.proofs.reading.read.Goals as goal
 
@@ -16,7 +16,7 @@ returns-then-console-clause-comes c sequence stands =
 
 pub returns-then-console-clause-sent : goal.returns-then-console-clause-sent
 returns-then-console-clause-sent c sequence stands =
-    sends_nothing c.args.sink.now _
+    stays_as_sent c.args.sink.now _
     (ap (λ (o : Outcome). o.reply) (sym (titled (console_of c.args.console.now) sequence c.args.byte c.if-console.true)) ∙ c.read_title.ensures.silent sequence)
 
 pub returns-then-is_upper-clause-comes : goal.returns-then-is_upper-clause-comes
@@ -28,7 +28,7 @@ returns-then-is_upper-clause-comes c sequence stands =
 pub returns-then-is_upper-clause-sent : goal.returns-then-is_upper-clause-sent
 returns-then-is_upper-clause-sent c sequence stands =
     let is = sym (c.is_upper.ensures sequence stands) ∙ c.if-is_upper.true in
-    sends_nothing c.args.sink.now _
+    stays_as_sent c.args.sink.now _
     (ap (λ (o : Outcome). o.reply) (sym (upper (console_of c.args.console.now) sequence c.args.byte c.if-console.false is))
     ∙ upper_silent (console_of c.args.console.now) c.args.byte)
 

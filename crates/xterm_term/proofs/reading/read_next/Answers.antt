@@ -6,7 +6,7 @@ use Rattle.xterm_term.specs.Term.{Outcome}
 use Rattle.xterm_term.specs.SameSize.{SameSize}
 use Rattle.xterm_term.specs.Reading.{ComesTo}
 use Rattle.xterm_term.proofs.ByteKinds.{next}
-use Rattle.xterm_term.proofs.Sinks.{sends_nothing}
+use Rattle.plays.proofs.Sinks.{stays_as_sent}
 use Rattle.xterm_term.proofs.Sizes.{both, put_keeps_size}
 use Rattle.xterm_term.proofs.Told.{came_character, came_more, broken}
 use Rattle.xterm_term.proofs.reading.read_next.Goals as goal
@@ -18,7 +18,7 @@ returns-in-Character-clause-comes c sequence stands =
 
 pub returns-in-Character-clause-sent : goal.returns-in-Character-clause-sent
 returns-in-Character-clause-sent c sequence stands =
-    sends_nothing c.args.sink.now _
+    stays_as_sent c.args.sink.now _
     (ap (λ (o : Outcome). o.reply) (sym (next (console_of c.args.console.now) sequence c.args.decoder.now c.args.byte _ c.requires.pending (sym c.in-Character.is ∙ c.take.ensures.value))))
 
 pub returns-in-Character-clause-size : goal.returns-in-Character-clause-size
@@ -32,7 +32,7 @@ returns-in-More-clause-comes c sequence stands =
 
 pub returns-in-More-clause-sent : goal.returns-in-More-clause-sent
 returns-in-More-clause-sent c sequence stands =
-    sends_nothing c.args.sink.now _
+    stays_as_sent c.args.sink.now _
     (ap (λ (o : Outcome). o.reply) (sym (next (console_of c.args.console.now) sequence c.args.decoder.now c.args.byte _ c.requires.pending (sym c.in-More.is ∙ c.take.ensures.value))))
 
 pub returns-in-Broken-clause-comes : goal.returns-in-Broken-clause-comes

@@ -6,7 +6,7 @@ use Rattle.xterm_term.specs.Term.{play, sent}
 use Rattle.xterm_term.specs.Seen.{Shows}
 use Rattle.xterm_term.proofs.Feeding.{play_on, sink_on, room_on, left_on}
 use Rattle.xterm_term.proofs.Sizes.{both}
-use Rattle.xterm_term.proofs.Sinks.{sends_nothing, keeps_itself, keeps_trans}
+use Rattle.plays.proofs.Sinks.{stays_as_sent, keeps_itself, keeps_trans}
 use Rattle.xterm_term.proofs.terminal.Terminal.take_all.Goals as goal
 
 pub loop-rest-init : goal.loop-rest-init
@@ -16,7 +16,7 @@ loop-rest-init c = record {
     at = 0;
     left = refl;
     shows = λ x shows. shows;
-    sent = λ x shows. sends_nothing c.args.sink.now [] refl;
+    sent = λ x shows. stays_as_sent c.args.sink.now [] refl;
   };
   front = keeps_itself c.args.sink.now;
   size = record { columns = refl; lines = refl };

@@ -2,7 +2,7 @@ use Rattle.std.proofs.Common.{sym, ap, subst, ◌∙◌}
 use Rattle.std.proofs.lemmas.Bool.{false≢true}
 use Rattle.plays.specs.Sink.{after_sending, HasRoom, KeepsFront}
 use Rattle.xterm_term.specs.Seen.{Seen, Shows, Told, seen_of}
-use Rattle.xterm_term.proofs.Sinks.{keeps_itself, keeps_after}
+use Rattle.plays.proofs.Sinks.{keeps_itself, keeps_after}
 use Rattle.xterm_term.proofs.Told.{told_step, told_reply, sound_terminal}
 use Rattle.xterm_term.proofs.terminal.Terminal.take_byte.Goals as goal
 
