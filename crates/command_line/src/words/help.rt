@@ -333,7 +333,8 @@ pub fn help_of<'a>(argument: Argument) -> &'a str {
         }
         Argument::Every => {
             "A terminal is kept at every so many chunks, from 1 to 1000000 (100 if not given): fewer chunks \
-             between terminals take more memory, and more take longer to go back"
+             between terminals take more memory (4 KB for each whose screen of 80x24 is full, 33 KB under \
+             xterm), and more take longer to go back"
         }
         Argument::Profile => {
             "Which terminal plays: vt100 (if not given), vt102, which can insert and delete, xterm, a terminal \
