@@ -15,3 +15,4 @@ pub mod ByLine
 pub mod Skim
 pub mod Fresh
 pub mod Kept
+pub mod Moved

@@ -43,6 +43,7 @@ ghost use Rattle.screen_print.specs.ByLine.{
 };
 ghost use Rattle.screen_print.specs.EachByte.{is_lone};
 ghost use Rattle.screen_print.specs.FindLines.{count_left, ends_line, found_line, left_of, standing};
+ghost use Rattle.screen_print.specs.Moved.{IsMoved};
 ghost use Rattle.screen_print.specs.Places.{IsPlace};
 ghost use Rattle.screen_print.specs.Start.{IsStart};
 ghost use Rattle.screen_rows.specs.RowText.{characters};
@@ -51,14 +52,14 @@ ghost use Rattle.vt_screen.specs.Cells.{row_at};
 
 use crate::alike::{BLOCK, alike_len};
 use crate::find_lines::{Chunk, put_found};
+use crate::moved::{Moved, is_same};
 use crate::quiet::{may_begin, same_len};
 use crate::standing::{Place, begins, ends_line};
 use crate::start::Start;
 use crate::still::{ROWS, Still};
 use crate::stood::all_stood;
 use arrayvec::ArrayVec;
-use screen_rows::laws::same_rows_are_equal;
-use screen_rows::{same_first, same_row};
+use screen_rows::same_first;
 use std::io::Write;
 use tape_core::Watched;
 use tape_core::laws::gives_join;
@@ -68,19 +69,21 @@ use vt_screen::limits::{LINES, WIDE_COLUMNS};
 /// In more lines than so many a screen mostly differs because rows moved.
 pub(crate) const FEW: usize = 4;
 
-/// A text that is looked for, and how it begins.
+/// A text that is looked for, how it begins, and the line in which it was seen when the chunk began.
 #[derive(Drop)]
 pub(crate) struct Sought<'a> {
     pub(crate) text: &'a [char],
     pub(crate) start: &'a Start,
+    pub(crate) seen: u8,
 }
 
-/// Two screens, and the lines in which their rows differ.
+/// Two screens, the lines in which their rows differ, and lines of the first one whose rows moved.
 #[derive(Drop)]
 pub(crate) struct Pair<'a> {
     pub(crate) one: &'a Still,
     pub(crate) other: &'a Still,
     pub(crate) lines: &'a [u8],
+    pub(crate) moved: Moved,
 }
 
 /// What stands on the screen at both ends of a chunk.
@@ -164,6 +167,7 @@ pub(crate) fn put_less<W: Write>(
 )
     requires start { IsStart sought.now.text.now sought.now.start.now }
     requires lines { DifferIn pair.now.lines.now pair.now.one.now pair.now.other.now }
+    requires moved { IsMoved pair.now.moved pair.now.one.now pair.now.other.now }
     ensures { Gave W.contents writer.old writer.new
         (lines_by sought.now.text.now pair.now.one.now pair.now.other.now
         (found_line sign chunk.now.index chunk.now.due chunk.now.len pair.now.one.now)
@@ -189,6 +193,7 @@ pub(crate) fn put_less<W: Write>(
 fn push_lost(sought: &Sought<'_>, pair: &Pair<'_>, line: u8, lost: &mut Lost)
     requires start { IsStart sought.now.text.now sought.now.start.now }
     requires lines { DifferIn pair.now.lines.now pair.now.one.now pair.now.other.now }
+    requires moved { IsMoved pair.now.moved pair.now.one.now pair.now.other.now }
     requires low { 1 ≤ line }
     requires high { line ≤ LINES }
     requires before { AreLost sought.now.text.now pair.now.one.now line
@@ -248,10 +253,11 @@ fn push_alone(sought: &Sought<'_>, pair: &Pair<'_>, line: u8, lost: &mut Lost)
     }
 }
 
-/// A line of the other screen with the same row, where one is in sight: the first of those from one on, since rows mostly
-/// move together, or the line itself, where it doesn't differ.
+/// A line of the other screen with the same row, where one is in sight: where it's known to have moved, the first of those
+/// from one on, since rows mostly move together, or the line itself, where it doesn't differ.
 fn same_line(pair: &Pair<'_>, line: u8, next: u8) -> Option<u8>
     requires lines { DifferIn pair.now.lines.now pair.now.one.now pair.now.other.now }
+    requires moved { IsMoved pair.now.moved pair.now.one.now pair.now.other.now }
     requires low { 1 ≤ line }
     requires high { line ≤ LINES }
     requires next { 1 ≤ next }
@@ -260,13 +266,36 @@ fn same_line(pair: &Pair<'_>, line: u8, next: u8) -> Option<u8>
     ensures same { IfSome result (λ there.
         row_at pair.now.one.now.rows line ≡ row_at pair.now.other.now.rows there) }
 {
-    if pair.lines.len() > FEW && next <= LINES && is_same(pair, line, next) {
+    if let Some(there) = moved_line(pair, line, next) {
+        return Some(there);
+    }
+    if pair.lines.len() > FEW && next <= LINES && is_same(pair.one, line, pair.other, next) {
         return Some(next);
     }
     if line >= next && !pair.lines.contains(&line) {
         return Some(line);
     }
     None
+}
+
+/// The line of the other screen, from one on, to which the row of a line is known to have moved.
+fn moved_line(pair: &Pair<'_>, line: u8, next: u8) -> Option<u8>
+    requires moved { IsMoved pair.now.moved pair.now.one.now pair.now.other.now }
+    requires high { line ≤ LINES }
+    ensures low { IfSome result (λ there. next ≤ there) }
+    ensures high { IfSome result (λ there. there ≤ LINES) }
+    ensures same { IfSome result (λ there.
+        row_at pair.now.one.now.rows line ≡ row_at pair.now.other.now.rows there) }
+{
+    let moved = pair.moved;
+    if line < moved.from || line >= moved.end {
+        return None;
+    }
+    let there = line + moved.down - moved.up;
+    if there < next {
+        return None;
+    }
+    Some(there)
 }
 
 /// A line of the other screen, and whether it surely has the same row.
@@ -324,7 +353,7 @@ fn same_from(pair: &Pair<'_>, line: u8, next: u8) -> Option<u8>
         row_at pair.now.one.now.rows line ≡ row_at pair.now.other.now.rows there) }
 {
     for there in next..LINES + 1 {
-        if begins_same(pair, line, there) && is_same(pair, line, there) {
+        if begins_same(pair, line, there) && is_same(pair.one, line, pair.other, there) {
             return Some(there);
         }
     }
@@ -339,7 +368,7 @@ fn is_taken(pair: &Pair<'_>, line: u8) -> bool
         × (row_at pair.now.one.now.rows below ≡ row_at pair.now.other.now.rows line) }
 {
     for below in line + 1..LINES + 1 {
-        if begins_same(pair, below, line) && is_same(pair, below, line) {
+        if begins_same(pair, below, line) && is_same(pair.one, below, pair.other, line) {
             return true;
         }
     }
@@ -357,20 +386,6 @@ fn begins_same(pair: &Pair<'_>, line: u8, there: u8) -> bool
         (take BLOCK (row_at pair.now.other.now.rows there).cells) }
 {
     same_first::<BLOCK>(&pair.one.row(line).cells, &pair.other.row(there).cells)
-}
-
-/// Whether a line of one screen has the row of a line of the other.
-fn is_same(pair: &Pair<'_>, line: u8, there: u8) -> bool
-    requires low { 1 ≤ line }
-    requires high { line ≤ LINES }
-    requires there_low { 1 ≤ there }
-    requires there_high { there ≤ LINES }
-    ensures { result ≡ true
-        → row_at pair.now.one.now.rows line ≡ row_at pair.now.other.now.rows there }
-{
-    same_rows_are_equal();
-    let narrow = !(pair.one.is_wide() || pair.other.is_wide());
-    same_row(pair.one.row(line), pair.other.row(there), narrow)
 }
 
 /// The same by the line of the other screen.

@@ -46,6 +46,7 @@ ghost use Rattle.screen_print.specs.EachByte.{
 ghost use Rattle.screen_print.specs.ByLine.{DifferIn};
 ghost use Rattle.screen_print.specs.FindLines.{found_line, less_lines, standing};
 ghost use Rattle.screen_print.specs.Kept.{AreAlike, IsCurrent, IsKeptOf, IsLike};
+ghost use Rattle.screen_print.specs.Moved.{IsMoved};
 ghost use Rattle.screen_print.specs.Places.{IsPlace};
 ghost use Rattle.screen_print.specs.Skim.{AreKeysOf, IsKeyed, IsLacked, IsPart, NowhereIn, ScreenLacks};
 ghost use Rattle.screen_print.specs.Start.{IsStart};
@@ -58,6 +59,7 @@ use crate::find_lines::{Chunk, put_found};
 use crate::fresh::play_quietly;
 use crate::key::{Key, Keys};
 use crate::laws::nowhere_means_nowhere;
+use crate::moved::{Moved, Rise};
 use crate::quiet::stays;
 use crate::seen::{is_vain, place_seen, stands_still};
 use crate::silent::play_all;
@@ -278,13 +280,15 @@ struct Kept<'a> {
     seen: Place,
 }
 
-/// A chunk that was played: what stands before it and behind it, the lines in which they differ, and the terminal then.
+/// A chunk that was played: what stands before it and behind it, the lines in which they differ, and the terminal then. And
+/// the line in which the text was seen before it.
 #[derive(Drop)]
 struct Played<'a> {
     first: &'a Still,
     last: &'a Still,
     lines: &'a [u8],
     terminal: &'a Terminal,
+    seen: u8,
 }
 
 /// The same by how the text begins, and by its keys. Stills are made only from the first chunk on in which the text may
@@ -562,9 +566,9 @@ fn follow_stills(kept: &mut Kept<'_>, terminal: &Terminal)
     let changed = kept.first.lines_unlike(terminal);
     let lines = changed.as_slice();
     kept.first.catch_up(terminal, lines);
-    kept.last.catch_up(terminal, lines);
-    kept.stills.before.catch_up(terminal, lines);
-    kept.stills.after.catch_up(terminal, lines);
+    kept.last.follow(kept.first, terminal, lines);
+    kept.stills.before.follow(kept.first, terminal, lines);
+    kept.stills.after.follow(kept.first, terminal, lines);
     kept.current = true;
 }
 
@@ -699,6 +703,7 @@ fn put_next<W: Write>(
         last: &*kept.last,
         lines,
         terminal: &*kept.terminal,
+        seen: kept.seen.line,
     };
     put_chunk(
         text,
@@ -711,7 +716,7 @@ fn put_next<W: Write>(
         scratch,
         writer,
     );
-    kept.first.catch_up(kept.terminal, lines);
+    kept.first.follow(kept.last, kept.terminal, lines);
 }
 
 /// Writes what went in a chunk, what came and went inside it, and what came. The terminal plays it, and both stills go
@@ -750,19 +755,23 @@ fn put_chunk<W: Write>(
     let first = played.first;
     let last = played.last;
     let lines = played.lines;
-    let sought = Sought { text, start };
+    let seen = played.seen;
+    let sought = Sought { text, start, seen };
     let ends = Ends { first, last };
+    let rise = Rise::of(first, last, lines);
     let went = Pair {
         one: first,
         other: last,
         lines,
+        moved: rise.went(),
     };
     let came = Pair {
         one: last,
         other: first,
         lines,
+        moved: rise.came(),
     };
-    let quiet = stays(text, start, first, played.terminal, lines);
+    let quiet = stays(text, start, seen, first, played.terminal, lines);
     put_end(b'-', chunk, &sought, &went, quiet, writer);
     put_bytes(
         &sought,
@@ -789,6 +798,7 @@ fn put_end<W: Write>(
 )
     requires start { IsStart sought.now.text.now sought.now.start.now }
     requires lines { DifferIn pair.now.lines.now pair.now.one.now pair.now.other.now }
+    requires moved { IsMoved pair.now.moved pair.now.one.now pair.now.other.now }
     requires quiet { quiet ≡ true
         → less_lines sign chunk.now.index chunk.now.due chunk.now.len
         pair.now.one.now (standing sought.now.text.now pair.now.one.now)
@@ -889,7 +899,7 @@ fn put_byte<W: Write>(
     let lines = changed.as_slice();
     after.catch_up(terminal, lines);
     put_changed(sought, chunk, ends, before, after, terminal, lines, writer);
-    before.catch_up(terminal, lines);
+    before.follow(after, terminal, lines);
 }
 
 /// The same by the lines that the byte changed: where the text surely stays in them nothing went.
@@ -915,13 +925,21 @@ fn put_changed<W: Write>(
         before.now (standing text before.now) after.now (standing text after.now)) }
 {
     gives_join::<W>();
-    if stays(sought.text, sought.start, before, terminal, lines) {
+    if stays(
+        sought.text,
+        sought.start,
+        sought.seen,
+        before,
+        terminal,
+        lines,
+    ) {
         return;
     }
     let pair = Pair {
         one: before,
         other: after,
         lines,
+        moved: Moved::none(),
     };
     put_less(b'~', chunk, sought, &pair, Some(ends), writer);
 }

@@ -25,6 +25,7 @@ ghost use Rattle.screen_rows.specs.SameRows.{changed_lines};
 ghost use Rattle.screen_print.specs.Start.{IsStart, starts_at};
 ghost use Rattle.screen_print.specs.Stills.{still_of};
 
+use crate::by_line::FEW;
 use crate::start::{Start, may_start, may_start_at_end};
 use crate::still::Still;
 use screen_rows::{cells_to_margin, character};
@@ -43,10 +44,12 @@ const WIDE_STARTS: usize = WIDE_COLUMNS as usize - 2;
 const SHORT: usize = NARROW_COLUMNS as usize / 2 + 1;
 
 /// Whether a chunk that changes these lines surely leaves a text where it stands: in what it changes the
-/// text begins nowhere. It answers in a fraction of the time in which lines are compared.
+/// text begins nowhere. It answers in a fraction of the time in which lines are compared. Where the line moved in which the
+/// text was seen it isn't asked.
 pub(crate) fn stays(
     text: &[char],
     start: &Start,
+    seen: u8,
     before: &Still,
     after: &Terminal,
     lines: &[u8],
@@ -60,7 +63,7 @@ pub(crate) fn stays(
     let screen = after.screen();
     screens_are_sound(screen);
     before.sound();
-    if text.is_empty() {
+    if text.is_empty() || has_moved(seen, lines) {
         return false;
     }
     if before.is_wide() != screen.is_wide() {
@@ -70,6 +73,11 @@ pub(crate) fn stays(
         return false;
     }
     lines_stay(text, start, before, after, lines)
+}
+
+/// Whether so many lines changed that rows moved, and among them is the one in which a text was seen: it hardly stays then.
+fn has_moved(seen: u8, lines: &[u8]) -> bool {
+    lines.len() > FEW && lines.contains(&seen)
 }
 
 /// Whether what each line shows of a text surely stays, whatever rows stand behind it.

@@ -6,6 +6,7 @@ ghost use Rattle.vt_screen.specs.Picture.{SoundRow};
 ghost use Rattle.vt_screen.specs.Touched.{Told as ScreenTold};
 ghost use Rattle.screen_rows.specs.SameRows.{changed_lines, is_changed};
 
+use crate::by_line::FEW;
 use arrayvec::ArrayVec;
 use screen_rows::{cells_to_margin, same_row};
 use std::marker::Model;
@@ -162,6 +163,31 @@ impl Still {
         self.wide = screen.is_wide();
         self.reversed = terminal.modes().reverse_screen;
         (self.line, self.column) = screen.cursor();
+    }
+
+    /// The same where another still is that already: it's copied as a whole where many lines differ.
+    pub(crate) fn follow(&mut self, other: &Still, terminal: &Terminal, lines: &[u8])
+        requires other { other.now ≡ still_of terminal.now.console }
+        requires lines { lines.now
+            ≡ changed_lines self.old.rows terminal.now.console.picture.rows }
+        ensures { self.new ≡ still_of terminal.now.console }
+    {
+        if lines.len() > FEW {
+            self.copy_from(other);
+        } else {
+            self.catch_up(terminal, lines);
+        }
+    }
+
+    /// Becomes the other still.
+    fn copy_from(&mut self, other: &Still)
+        ensures { self.new ≡ other.now }
+    {
+        self.rows.copy_from_slice(&other.rows);
+        self.wide = other.wide;
+        self.reversed = other.reversed;
+        self.line = other.line;
+        self.column = other.column;
     }
 }
 

@@ -28,6 +28,9 @@ pub put_less-requires-clause-lines : goal.put_less-requires-clause-lines
 put_less-requires-clause-lines g c =
     changed_differ c.args.before.now c.args.after.now c.args.lines.now (c.requires.changed ∙ ap (λ (s : Still). changed_lines c.args.before.now.rows s.rows) (sym c.requires.after))
 
+pub put_less-requires-clause-moved : goal.put_less-requires-clause-moved
+put_less-requires-clause-moved g c = c.none.ensures c.args.before.now c.args.after.now
+
 pub returns : goal.returns
 returns g c =
     let chunk = c.args.chunk.now in

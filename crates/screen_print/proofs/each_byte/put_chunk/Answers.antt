@@ -70,3 +70,9 @@ put_end-requires-2-clause-quiet g c = λ quiet.
     let chunk = c.args.chunk.now in
     (played_less c.args.text.now chunk.index chunk.due chunk.len c.args.played c.requires.len c.requires.last
     (c.stays-quiet.ensures quiet chunk.index chunk.due)).1
+
+pub put_end-requires-clause-moved : goal.put_end-requires-clause-moved
+put_end-requires-clause-moved g c = c.went.ensures c.args.played.first.now c.args.played.last.now c.of-rise.ensures.rise
+
+pub put_end-requires-2-clause-moved : goal.put_end-requires-2-clause-moved
+put_end-requires-2-clause-moved g c = c.came.ensures c.args.played.first.now c.args.played.last.now c.of-rise.ensures.rise

@@ -1,5 +1,5 @@
 use Rattle.std.proofs.Common.{◌∙◌, sym}
-use Rattle.screen_print.proofs.by_line.is_same.Goals as goal
+use Rattle.screen_print.proofs.moved.is_same.Goals as goal
 
 pub returns : goal.returns
 returns c = λ yes.
