@@ -21,8 +21,6 @@ use Rattle.screen_print.specs.Stills.{Still}
 use Rattle.screen_print.proofs.FindLemmas.{first_more, line_ends, places_more, standing_all, standing_more, texts_at}
 use Rattle.chunk_walk.proofs.TextLemmas.{texts_from}
 use Rattle.screen_print.proofs.QuietLemmas.{front_alike, itself, line_is}
-use Rattle.screen_print.proofs.StillLemmas.{IsIn, differs_or_same}
-use Rattle.screen_rows.specs.SameRows.{changed_lines}
 use Rattle.vt_screen.specs.Cells.{row_at}
 use Rattle.screen_rows.proofs.RangeLemmas.{range_more}
 
@@ -559,16 +557,6 @@ apart_behind one line column place low high differs near same =
     differs (omega (arith, near, long)) (same ∙ ap (λ n. take n (row_on one place.line)) long)
 
 -- ---- lines that differ
-
--- a line that isn't among these
-unlisted : {P : Type 0} (lines : List ℕ) (k : ℕ) → list_any (λ n. nat_eq n k) lines ≡ false → IsIn lines k P → P
-unlisted [] k none p = p
-unlisted (x ∷ xs) k none (inl e) = absurd (false≢true (sym (or_parts (nat_eq x k) (list_any (λ n. nat_eq n k) xs) none).0 ∙ eq-eqb x k (sym e)))
-unlisted {P = P} (x ∷ xs) k none (inr p) = unlisted {P = P} xs k (or_parts (nat_eq x k) (list_any (λ n. nat_eq n k) xs) none).1 p
-
-pub changed_differ : (one other : Still) (lines : List ℕ) → lines ≡ changed_lines one.rows other.rows → DifferIn lines one other
-changed_differ one other lines is line low high none =
-    unlisted lines line none (subst (λ l. IsIn l line (row_at one.rows line ≡ row_at other.rows line)) (sym is) (differs_or_same one.rows other.rows line low high))
 
 pub differ_back : (one other : Still) (lines : List ℕ) → DifferIn lines one other → DifferIn lines other one
 differ_back one other lines differ line low high none = sym (differ line low high none)

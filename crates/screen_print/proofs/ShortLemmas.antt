@@ -11,7 +11,7 @@ use Rattle.vt_screen.specs.Picture.{margin_of}
 use Rattle.screen_print.specs.FindLines.{begins, ends_line, line_text_from, row_texts}
 use Rattle.screen_rows.specs.RowText.{row_text}
 use Rattle.screen_print.specs.Quiet.{LineStays, PlacesStay, SamePlacesStay, columns_of}
-use Rattle.screen_rows.specs.SameRows.{changed_lines}
+use Rattle.screen_print.specs.Cover.{Cover}
 use Rattle.screen_print.specs.Stills.{Still}
 use Rattle.screen_print.proofs.FindLemmas.{line_ends, no_texts, texts_at}
 use Rattle.screen_rows.proofs.TextLemmas.{row_text_len}
@@ -88,13 +88,13 @@ listed_has Q (x ∷ xs) k all (inr p) = listed_has Q xs k (λ j d lt. all (suc j
 
 -- the rows that are the same, where those right above the ones that differ stand alone
 pub short_same_stay : (text : List ℕ) (one other : Still) (lines : List ℕ) → length one.rows ≡ 24 → length other.rows ≡ 24 → one.wide ≡ other.wide
-    → ((line : ℕ) → length (row_at other.rows line).cells ≡ 132) → length text ≤ 41 → lines ≡ changed_lines one.rows other.rows
+    → ((line : ℕ) → length (row_at other.rows line).cells ≡ 132) → length text ≤ 41 → Cover lines one.rows other.rows
     → All (λ line. 1 < line → LineStays text other other (line - 1)) lines → SamePlacesStay text one other
 short_same_stay text one other lines whole whole' wide cells short changed above = λ line low high same. elim (cases_lt line 24) [
   | inl lt ↦
       let next = row_at one.rows (line + 1) ≡ row_at other.rows (line + 1) in
       let listed : IsIn lines (line + 1) next =
-      subst (λ l. IsIn l (line + 1) next) (sym changed) (differs_or_same one.rows other.rows (line + 1) (omega arith) (omega arith)) in
+      differs_or_same one.rows other.rows lines (line + 1) changed (omega arith) (omega arith) in
       elim (listed_has (λ n. 1 < n → LineStays text other other (n - 1)) lines (line + 1) above listed) [
         | inl same' ↦ short_stays text one other line whole whole' wide lt (cells (line + 1)) short same same'
         | inr alone ↦
@@ -104,8 +104,8 @@ short_same_stay text one other lines whole whole' wide cells short changed above
   | inr last ↦ last_stays text one other line whole whole' wide last same
 ]
 
--- the lines that differ are lines
-pub lines_within : (before after : List Row) (lines : List ℕ) → lines ≡ changed_lines before after → All (λ line. line ≤ 24) lines
+-- lines that cover those that differ are lines
+pub lines_within : (before after : List Row) (lines : List ℕ) → Cover lines before after → All (λ line. line ≤ 24) lines
 lines_within before after lines is = λ k d lt.
     let within = line_within before after lines k is lt in
     let same : get_or lines k d ≡ get_or lines k 0 = get_or_default lines k d 0 lt in

@@ -1,12 +1,13 @@
 -- Stills: rows that are copied where they differ.
-use Rattle.std.proofs.Common.{◌≡◌, ◌⊎◌, ℕ, zero, suc, ◌+◌, ◌-◌, ◌<◌, ◌≤◌, Bool, false, List, [], ◌∷◌, length, get_or, set, subst, All, drop, filter, ap, sym, ◌∙◌, arith, inl, inr}
-use Rattle.std.specs.List.{range_with_len}
-use Rattle.std.proofs.lemmas.Bool.{cases_Bool, cases_eq, not-false}
+use Rattle.std.proofs.Common.{◌≡◌, ◌⊎◌, ℕ, zero, suc, ◌+◌, ◌-◌, ◌<◌, ◌≤◌, Bool, false, List, [], ◌∷◌, length, nat_eq, refl, get_or, set, subst, All, drop, filter, ap, sym, ◌∙◌, arith, inl, inr}
+use Rattle.std.specs.List.{list_any, range_with_len}
+use Rattle.std.proofs.lemmas.Bool.{cases_Bool, cases_eq, eq-eqb, false≢true, ne_eqb, not-false, or_from, or_parts}
 use Rattle.std.proofs.lemmas.List.{drop_all, drop_more}
 use Rattle.std.proofs.lemmas.List.Elements.{All-filter, All-get_or}
 use Rattle.vt_screen.specs.declared.cell.Row.{Row}
 use Rattle.vt_screen.specs.Cells.{row_at}
 use Rattle.screen_rows.specs.SameRows.{changed_lines, is_changed, same_row}
+use Rattle.screen_print.specs.Cover.{Cover, CoverAll}
 use Rattle.screen_print.proofs.RowLemmas.{row_set_same, row_set_other}
 use Rattle.screen_rows.proofs.SameLemmas.{same_row_decides}
 
@@ -40,7 +41,7 @@ in_filter p a (suc n) k low high fails = elim (cases_eq k a) [
       ]
 ]
 
--- the lines that differ are lines
+-- the numbers of a range
 pub in_range : (a n k d : ℕ) → k < n → (a ≤ get_or (range_with_len a n) k d) × (get_or (range_with_len a n) k d < a + n)
 in_range a zero k d lt = absurd (omega arith)
 in_range a (suc n) zero d lt = (omega arith, omega arith)
@@ -48,20 +49,57 @@ in_range a (suc n) (suc k) d lt =
     let h = in_range (a + 1) n k d (omega arith) in
     (omega (arith, h.0), omega (arith, h.1))
 
-pub line_within : (before after : List Row) (lines : List ℕ) (i : ℕ) → lines ≡ changed_lines before after → i < length lines
-    → (1 ≤ get_or lines i 0) × (get_or lines i 0 < 25)
-unfolding changed_lines
-line_within before after lines i is lt =
-    All-get_or (λ x. (1 ≤ x) × (x < 25)) lines i 0 lt
-    (subst (All (λ x. (1 ≤ x) × (x < 25))) (sym is)
-    (All-filter (is_changed before after) (λ x. (1 ≤ x) × (x < 25)) (range_with_len 1 24) (λ k d less. in_range 1 24 k d less)))
+-- a number that isn't among these
+unlisted : {P : Type 0} (lines : List ℕ) (k : ℕ) → list_any (λ n. nat_eq n k) lines ≡ false → IsIn lines k P → P
+unlisted [] k none p = p
+unlisted (x ∷ xs) k none (inl e) = absurd (false≢true (sym (or_parts (nat_eq x k) (list_any (λ n. nat_eq n k) xs) none).0 ∙ eq-eqb x k (sym e)))
+unlisted {P = P} (x ∷ xs) k none (inr p) = unlisted {P = P} xs k (or_parts (nat_eq x k) (list_any (λ n. nat_eq n k) xs) none).1 p
 
--- a line is among those that differ, or its rows are the same
-pub differs_or_same : (before after : List Row) (k : ℕ) → 1 ≤ k → k ≤ 24 → IsIn (changed_lines before after) k (row_at before k ≡ row_at after k)
+-- a number is among these, or what holds where it isn't
+listed_or : {P : Type 0} (lines : List ℕ) (k : ℕ) → (list_any (λ n. nat_eq n k) lines ≡ false → P) → IsIn lines k P
+listed_or [] k p = p refl
+listed_or {P = P} (x ∷ xs) k p = elim (cases_eq k x) [
+  | inl e ↦ inl e
+  | inr ne ↦ inr (listed_or {P = P} xs k (λ none. p (or_from (nat_eq x k) (list_any (λ n. nat_eq n k) xs) (ne_eqb x k (λ e. ne (sym e))) none)))
+]
+
+-- each number of a range is among them
+none_outside : (a n k : ℕ) → a ≤ k → k < a + n → list_any (λ x. nat_eq x k) (range_with_len a n) ≡ false → ⊥
+none_outside a zero k low high none = omega arith
+none_outside a (suc n) k low high none =
+    let parts = or_parts (nat_eq a k) (list_any (λ x. nat_eq x k) (range_with_len (a + 1) n)) none in
+    elim (cases_eq k a) [
+      | inl e ↦ false≢true (sym parts.0 ∙ eq-eqb a k (sym e))
+      | inr ne ↦ none_outside (a + 1) n k (omega arith) (omega arith) parts.1
+    ]
+
+-- the lines that differ cover these
+pub changed_cover : (before after : List Row) (lines : List ℕ) → lines ≡ changed_lines before after → Cover lines before after
 unfolding changed_lines
-differs_or_same before after k low high =
-    in_filter (is_changed before after) 1 24 k low (omega arith)
-    (λ fails. (same_row_decides (row_at before k) (row_at after k)).0 (not-false (same_row (row_at before k) (row_at after k)) fails))
+changed_cover before after lines is = record {
+  within = subst (All (λ x. (1 ≤ x) × (x < 25))) (sym is)
+      (All-filter (is_changed before after) (λ x. (1 ≤ x) × (x < 25)) (range_with_len 1 24) (λ k d less. in_range 1 24 k d less));
+  others = λ line low high none.
+      unlisted lines line none
+      (subst (λ l. IsIn l line (row_at before line ≡ row_at after line)) (sym is)
+      (in_filter (is_changed before after) 1 24 line low (omega arith)
+      (λ fails. (same_row_decides (row_at before line) (row_at after line)).0 (not-false (same_row (row_at before line) (row_at after line)) fails))));
+}
+
+-- so do all lines
+pub all_cover : (lines : List ℕ) → lines ≡ range_with_len 1 24 → CoverAll lines
+all_cover lines is before after = record {
+  within = subst (All (λ x. (1 ≤ x) × (x < 25))) (sym is) (λ k d less. in_range 1 24 k d less);
+  others = λ line low high none. absurd (none_outside 1 24 line low (omega arith) (subst (λ l. list_any (λ x. nat_eq x line) l ≡ false) is none));
+}
+
+pub line_within : (before after : List Row) (lines : List ℕ) (i : ℕ) → Cover lines before after → i < length lines
+    → (1 ≤ get_or lines i 0) × (get_or lines i 0 < 25)
+line_within before after lines i cover lt = All-get_or (λ x. (1 ≤ x) × (x < 25)) lines i 0 lt cover.within
+
+-- a line is among them, or its rows are the same
+pub differs_or_same : (before after : List Row) (lines : List ℕ) (k : ℕ) → Cover lines before after → 1 ≤ k → k ≤ 24 → IsIn lines k (row_at before k ≡ row_at after k)
+differs_or_same before after lines k cover low high = listed_or lines k (cover.others k low high)
 
 -- a row more is copied
 pub copied_more : (rows other : List Row) (lines : List ℕ) (i line k : ℕ) (row : Row) → i < length lines

@@ -15,4 +15,5 @@ pub mod ByLine
 pub mod Skim
 pub mod Fresh
 pub mod Kept
+pub mod Cover
 pub mod Moved

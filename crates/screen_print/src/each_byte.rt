@@ -51,7 +51,7 @@ ghost use Rattle.screen_print.specs.Places.{IsPlace};
 ghost use Rattle.screen_print.specs.Skim.{AreKeysOf, IsKeyed, IsLacked, IsPart, NowhereIn, ScreenLacks};
 ghost use Rattle.screen_print.specs.Start.{IsStart};
 ghost use Rattle.screen_print.specs.Stills.{still_of};
-ghost use Rattle.screen_rows.specs.SameRows.{changed_lines};
+ghost use Rattle.screen_print.specs.Cover.{Cover};
 ghost use Rattle.screen_print.specs.Stops.{StopsWalk};
 
 use crate::by_line::{Ends, Pair, Sought, put_less};
@@ -563,7 +563,7 @@ fn follow_stills(kept: &mut Kept<'_>, terminal: &Terminal)
     if kept.current {
         return;
     }
-    let changed = kept.first.lines_unlike(terminal);
+    let changed = kept.first.lines_aside(terminal);
     let lines = changed.as_slice();
     kept.first.catch_up(terminal, lines);
     kept.last.follow(kept.first, terminal, lines);
@@ -695,7 +695,7 @@ fn put_next<W: Write>(
 {
     let _screen = terminal.screen();
     play_all(kept.terminal, bytes, scratch);
-    let changed = kept.first.lines_unlike(kept.terminal);
+    let changed = kept.first.lines_aside(kept.terminal);
     let lines = changed.as_slice();
     kept.last.catch_up(kept.terminal, lines);
     let played = Played {
@@ -738,8 +738,8 @@ fn put_chunk<W: Write>(
         → Shows played.terminal.now (play x bytes.now) }
     requires first { played.first.now ≡ still_of terminal.old.console }
     requires last { played.last.now ≡ still_of played.terminal.now.console }
-    requires changed { played.lines.now
-        ≡ changed_lines played.first.now.rows played.terminal.now.console.picture.rows }
+    requires changed { Cover played.lines.now played.first.now.rows
+        played.terminal.now.console.picture.rows }
     requires before { stills.old.before.now ≡ still_of terminal.old.console }
     requires after { stills.old.after.now ≡ still_of terminal.old.console }
     requires scratch { SCRATCH ≤ length scratch.old.bytes }
@@ -895,7 +895,7 @@ fn put_byte<W: Write>(
     ensures before { before.new ≡ still_of terminal.now.console }
     ensures after { after.new ≡ still_of terminal.now.console }
 {
-    let changed = before.changed_lines(terminal);
+    let changed = before.lines_told(terminal);
     let lines = changed.as_slice();
     after.catch_up(terminal, lines);
     put_changed(sought, chunk, ends, before, after, terminal, lines, writer);
@@ -914,8 +914,7 @@ fn put_changed<W: Write>(
     writer: &mut Watched<W>,
 )
     requires start { IsStart sought.now.text.now sought.now.start.now }
-    requires changed { lines.now
-        ≡ changed_lines before.now.rows terminal.now.console.picture.rows }
+    requires changed { Cover lines.now before.now.rows terminal.now.console.picture.rows }
     requires after { after.now ≡ still_of terminal.now.console }
     ensures { let text = sought.now.text.now in
         Gave W.contents writer.old writer.new

@@ -132,7 +132,7 @@ fn play_fresh(
         return 0;
     }
     run(&bytes[..len], terminal, scratch);
-    let changed = before.changed_lines(terminal);
+    let changed = before.lines_told(terminal);
     before.catch_up(terminal, changed.as_slice());
     after.catch_up(terminal, changed.as_slice());
     len

@@ -21,7 +21,7 @@ ghost use Rattle.std.specs.List.{starts_with};
 ghost use Rattle.screen_print.specs.FindLines.{begins, find_text};
 ghost use Rattle.screen_rows.specs.RowText.{row_text, characters};
 ghost use Rattle.screen_print.specs.Quiet.{AllPlacesStay, BeginsUpTo, LineStays, LinesStay, RowStays, SamePlacesStay};
-ghost use Rattle.screen_rows.specs.SameRows.{changed_lines};
+ghost use Rattle.screen_print.specs.Cover.{Cover};
 ghost use Rattle.screen_print.specs.Start.{IsStart, starts_at};
 ghost use Rattle.screen_print.specs.Stills.{still_of};
 
@@ -43,7 +43,7 @@ const WIDE_STARTS: usize = WIDE_COLUMNS as usize - 2;
 /// A text of no more characters that begins in a row ends in the next one at the latest: no row has under 40.
 const SHORT: usize = NARROW_COLUMNS as usize / 2 + 1;
 
-/// Whether a chunk that changes these lines surely leaves a text where it stands: in what it changes the
+/// Whether a chunk that changes these lines at most surely leaves a text where it stands: in what it changes the
 /// text begins nowhere. It answers in a fraction of the time in which lines are compared. Where the line moved in which the
 /// text was seen it isn't asked.
 pub(crate) fn stays(
@@ -55,8 +55,7 @@ pub(crate) fn stays(
     lines: &[u8],
 ) -> bool
     requires start { IsStart text.now start.now }
-    requires changed { lines.now
-        ≡ changed_lines before.now.rows after.now.console.picture.rows }
+    requires changed { Cover lines.now before.now.rows after.now.console.picture.rows }
     ensures { result ≡ true → (index due : ℕ)
         → find_text text.now index due before.now (still_of after.now.console) ≡ [] }
 {
@@ -99,8 +98,7 @@ fn all_lines_stay(text: &[char], start: &Start, before: &Still, after: &Terminal
 fn same_rows_stay(text: &[char], before: &Still, after: &Terminal, lines: &[u8]) -> bool
     requires text { 1 ≤ length text.now }
     requires wide { before.now.wide ≡ after.now.console.picture.wide }
-    requires changed { lines.now
-        ≡ changed_lines before.now.rows after.now.console.picture.rows }
+    requires changed { Cover lines.now before.now.rows after.now.console.picture.rows }
     ensures { result ≡ true → SamePlacesStay text.now before.now (still_of after.now.console) }
 {
     screens_are_sound(after.screen());
@@ -176,8 +174,7 @@ fn stands_alone(text: &[char], cells: &[Cell]) -> bool
 fn lines_stay(text: &[char], start: &Start, before: &Still, after: &Terminal, lines: &[u8]) -> bool
     requires text { 1 ≤ length text.now }
     requires start { IsStart text.now start.now }
-    requires changed { lines.now
-        ≡ changed_lines before.now.rows after.now.console.picture.rows }
+    requires changed { Cover lines.now before.now.rows after.now.console.picture.rows }
     requires others { SamePlacesStay text.now before.now (still_of after.now.console) }
     ensures { result ≡ true → AllPlacesStay text.now before.now (still_of after.now.console) }
 {

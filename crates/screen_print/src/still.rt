@@ -4,11 +4,13 @@ ghost use Rattle.std.specs.Prelude.{◌≡◌, ◌≤◌, ℕ, length, true, fal
 ghost use Rattle.vt_screen.specs.Cells.{row_at};
 ghost use Rattle.vt_screen.specs.Picture.{SoundRow};
 ghost use Rattle.vt_screen.specs.Touched.{Told as ScreenTold};
+ghost use Rattle.screen_print.specs.Cover.{Cover, CoverAll};
 ghost use Rattle.screen_rows.specs.SameRows.{changed_lines, is_changed};
 
+use crate::alike::BLOCK;
 use crate::by_line::FEW;
 use arrayvec::ArrayVec;
-use screen_rows::{cells_to_margin, same_row};
+use screen_rows::{cells_to_margin, same_first, same_row};
 use std::marker::Model;
 use vt_screen::laws::screens_are_sound;
 use vt_screen::limits::{LINES, WIDE_COLUMNS};
@@ -124,8 +126,8 @@ impl Still {
         changed_lines(&self.rows, screen, narrow)
     }
 
-    /// The same of any terminal, whatever it marks.
-    pub(crate) fn lines_unlike(&self, terminal: &Terminal) -> ArrayVec<u8, ROWS>
+    /// The lines in which it differs from what stands on the screen of any terminal, whatever it marks.
+    fn lines_unlike(&self, terminal: &Terminal) -> ArrayVec<u8, ROWS>
         ensures { result.items
             ≡ changed_lines self.now.rows terminal.now.console.picture.rows }
     {
@@ -137,6 +139,42 @@ impl Still {
             }
         }
         unlike
+    }
+
+    /// Lines that cover those in which it differs from what stands on the screen of a terminal, which marks all that it may
+    /// have touched since. Where all are marked, rows mostly moved, and they aren't compared.
+    pub(crate) fn lines_told(&self, terminal: &Terminal) -> ArrayVec<u8, ROWS>
+        requires { Told self.now.rows terminal.now }
+        ensures { Cover result.items self.now.rows terminal.now.console.picture.rows }
+    {
+        if are_all_touched(terminal.screen()) {
+            return all_lines();
+        }
+        self.changed_lines(terminal)
+    }
+
+    /// The same of any terminal, whatever it marks: where rows moved up they aren't compared.
+    pub(crate) fn lines_aside(&self, terminal: &Terminal) -> ArrayVec<u8, ROWS>
+        ensures { Cover result.items self.now.rows terminal.now.console.picture.rows }
+    {
+        if self.has_risen(terminal.screen()) {
+            return all_lines();
+        }
+        self.lines_unlike(terminal)
+    }
+
+    /// Whether the first row of a screen begins otherwise than its own one, and as one further down.
+    fn has_risen(&self, screen: &Screen) -> bool {
+        let cells = &screen.row(1).cells;
+        if same_first::<BLOCK>(&self.row(1).cells, cells) {
+            return false;
+        }
+        for line in 2..LINES + 1 {
+            if same_first::<BLOCK>(&self.row(line).cells, cells) {
+                return true;
+            }
+        }
+        false
     }
 
     /// Whether it differs from a screen in a line.
@@ -152,9 +190,9 @@ impl Still {
         )
     }
 
-    /// Becomes what stands on the screen of a terminal, from which it differs in these lines.
+    /// Becomes what stands on the screen of a terminal, from which it differs in these lines at most.
     pub(crate) fn catch_up(&mut self, terminal: &Terminal, lines: &[u8])
-        requires { lines.now ≡ changed_lines self.old.rows terminal.now.console.picture.rows }
+        requires { Cover lines.now self.old.rows terminal.now.console.picture.rows }
         ensures { self.new ≡ still_of terminal.now.console }
     {
         let screen = terminal.screen();
@@ -168,8 +206,7 @@ impl Still {
     /// The same where another still is that already: it's copied as a whole where many lines differ.
     pub(crate) fn follow(&mut self, other: &Still, terminal: &Terminal, lines: &[u8])
         requires other { other.now ≡ still_of terminal.now.console }
-        requires lines { lines.now
-            ≡ changed_lines self.old.rows terminal.now.console.picture.rows }
+        requires lines { Cover lines.now self.old.rows terminal.now.console.picture.rows }
         ensures { self.new ≡ still_of terminal.now.console }
     {
         if lines.len() > FEW {
@@ -189,6 +226,27 @@ impl Still {
         self.line = other.line;
         self.column = other.column;
     }
+}
+
+/// All lines.
+fn all_lines() -> ArrayVec<u8, ROWS>
+    ensures { CoverAll result.items }
+{
+    let mut lines = ArrayVec::new();
+    for line in 1..LINES + 1 {
+        lines.push(line);
+    }
+    lines
+}
+
+/// Whether a screen marks all lines as touched.
+fn are_all_touched(screen: &Screen) -> bool {
+    for line in 1..LINES + 1 {
+        if !screen.is_touched(line) {
+            return false;
+        }
+    }
+    true
 }
 
 /// A copy of the screen's rows.
@@ -234,7 +292,7 @@ fn is_changed(rows: &[Row; ROWS], screen: &Screen, line: u8, narrow: bool) -> bo
 
 /// Copies the rows of these lines from the screen.
 fn copy_lines(rows: &mut [Row; ROWS], screen: &Screen, lines: &[u8])
-    requires { lines.now ≡ changed_lines rows.old screen.now.picture.rows }
+    requires { Cover lines.now rows.old screen.now.picture.rows }
     ensures { rows.new ≡ screen.now.picture.rows }
 {
     screens_are_sound(screen);

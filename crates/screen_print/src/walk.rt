@@ -153,6 +153,7 @@ impl<'a, P: ChunkPrinter> Visitor<Terminal> for Printing<'a, P> {
 
 /// Writes the text of a chunk, by what stands before it and on the terminal after it, which becomes what
 /// stands before the next one.
+#[tactic(auto, using(crate::proofs::StillLemmas::changed_cover))]
 fn put_seen<P: ChunkPrinter, W: Write>(
     index: usize,
     due: u64,

@@ -1,10 +1,10 @@
-use Rattle.std.proofs.Common.{◌∙◌, ap, subst, sym}
+use Rattle.std.proofs.Common.{◌∙◌, subst, sym}
 use Rattle.tape_core.specs.Devices.{Gave}
 use Rattle.screen_print.specs.EachByte.{passed_lines}
 use Rattle.screen_print.specs.FindLines.{standing}
-use Rattle.screen_rows.specs.SameRows.{changed_lines}
+use Rattle.screen_print.specs.ByLine.{DifferIn}
 use Rattle.screen_print.specs.Stills.{Still, still_of}
-use Rattle.screen_print.proofs.ByLineLemmas.{changed_differ, passed_are}
+use Rattle.screen_print.proofs.ByLineLemmas.{passed_are}
 use Rattle.screen_print.proofs.EachByteLemmas.{nothing_passed}
 use Rattle.screen_print.proofs.each_byte.put_changed.Goals as goal
 
@@ -26,7 +26,7 @@ returns-then-stays g c =
 
 pub put_less-requires-clause-lines : goal.put_less-requires-clause-lines
 put_less-requires-clause-lines g c =
-    changed_differ c.args.before.now c.args.after.now c.args.lines.now (c.requires.changed ∙ ap (λ (s : Still). changed_lines c.args.before.now.rows s.rows) (sym c.requires.after))
+    subst (λ (s : Still). DifferIn c.args.lines.now c.args.before.now s) (sym c.requires.after) c.requires.changed.others
 
 pub put_less-requires-clause-moved : goal.put_less-requires-clause-moved
 put_less-requires-clause-moved g c = c.none.ensures c.args.before.now c.args.after.now

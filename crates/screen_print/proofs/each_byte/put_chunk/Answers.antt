@@ -5,18 +5,18 @@ use Rattle.vt_term.specs.Term.{play}
 use Rattle.screen_print.specs.declared.each_byte.Played.{Played}
 use Rattle.screen_print.specs.EachByte.{byte_lines, still_within}
 use Rattle.screen_print.specs.FindLines.{find_text, less_lines, standing}
-use Rattle.screen_rows.specs.SameRows.{changed_lines}
+use Rattle.screen_print.specs.Cover.{Cover}
 use Rattle.screen_print.specs.ByLine.{DifferIn}
 use Rattle.screen_print.specs.Stills.{Still, still_of}
-use Rattle.screen_print.proofs.ByLineLemmas.{changed_differ, differ_back}
+use Rattle.screen_print.proofs.ByLineLemmas.{differ_back}
 use Rattle.screen_print.proofs.EachByteLemmas.{bytes_are, first_is, last_is, less_is, nothing_less, still_shown}
 use Rattle.screen_print.proofs.each_byte.put_chunk.Goals as goal
 
 -- the lines in which a terminal differs from a still are those in which what stands on it does
 played_differ : (played : Played) (lines : List ℕ) → played.last.now ≡ still_of played.terminal.now.console
-    → lines ≡ changed_lines played.first.now.rows played.terminal.now.console.picture.rows → DifferIn lines played.first.now played.last.now
+    → Cover lines played.first.now.rows played.terminal.now.console.picture.rows → DifferIn lines played.first.now played.last.now
 played_differ played lines last changed =
-    changed_differ played.first.now played.last.now lines (changed ∙ ap (λ (s : Still). changed_lines played.first.now.rows s.rows) (sym last))
+    subst (DifferIn lines played.first.now) (sym last) changed.others
 
 -- where nothing is found behind a chunk nothing is less at either end
 played_less : (text : List ℕ) (index due len : ℕ) (played : Played) → len ≡ length text → played.last.now ≡ still_of played.terminal.now.console

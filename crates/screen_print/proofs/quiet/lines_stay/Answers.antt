@@ -3,7 +3,7 @@ use Rattle.std.proofs.lemmas.List.{get_or_default}
 use Rattle.screen_print.specs.Quiet.{PlacesStay}
 use Rattle.screen_print.specs.Stills.{still_of}
 use Rattle.screen_print.proofs.QuietLemmas.{row_places}
-use Rattle.screen_print.proofs.StillLemmas.{IsIn, copied_all, differs_or_same, in_map, line_within, listed_more}
+use Rattle.screen_print.proofs.StillLemmas.{copied_all, differs_or_same, in_map, line_within, listed_more}
 use Rattle.screen_print.proofs.quiet.lines_stay.Goals as goal
 
 pub line_stays-requires-clause-low : goal.line_stays-requires-clause-low
@@ -17,8 +17,7 @@ line_stays-requires-clause-high c =
 pub loop-line-init : goal.loop-line-init
 loop-line-init c = λ k low high.
     let after = still_of c.args.after.now.console in
-    subst (λ l. IsIn l k (PlacesStay c.args.text.now c.args.before.now after k)) (sym c.requires.changed)
-    (in_map _ k (c.requires.others k low high) (differs_or_same c.args.before.now.rows after.rows k low high))
+    in_map c.args.lines.now k (c.requires.others k low high) (differs_or_same c.args.before.now.rows after.rows c.args.lines.now k c.requires.changed low high)
 
 pub loop-line-preserved : goal.loop-line-preserved
 loop-line-preserved c = λ k low high.

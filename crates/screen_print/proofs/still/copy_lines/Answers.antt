@@ -1,7 +1,7 @@
-use Rattle.std.proofs.Common.{◌≡◌, ◌-◌, get_or, sym, subst, arith}
+use Rattle.std.proofs.Common.{◌≡◌, ◌-◌, get_or, arith}
 use Rattle.std.proofs.lemmas.List.{get_or_default, length-set}
 use Rattle.vt_screen.specs.Cells.{row_at}
-use Rattle.screen_print.proofs.StillLemmas.{IsIn, copied_all, copied_more, differs_or_same, line_within}
+use Rattle.screen_print.proofs.StillLemmas.{copied_all, copied_more, differs_or_same, line_within}
 use Rattle.screen_print.proofs.RowLemmas.{rows_by_line}
 use Rattle.screen_print.proofs.still.copy_lines.Goals as goal
 
@@ -29,7 +29,7 @@ listed c =
 pub loop-line-init : goal.loop-line-init
 loop-line-init c = record {
   whole = c.told-rows;
-  copied = λ k low high. subst (λ l. IsIn l k (row_at c.args.rows.now k ≡ row_at c.args.screen.now.picture.rows k)) (sym c.requires) (differs_or_same c.args.rows.now c.args.screen.now.picture.rows k low high);
+  copied = λ k low high. differs_or_same c.args.rows.now c.args.screen.now.picture.rows c.args.lines.now k c.requires low high;
 }
 
 pub loop-line-preserved : goal.loop-line-preserved
