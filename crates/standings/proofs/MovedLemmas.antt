@@ -1,5 +1,5 @@
 -- Rows that move up by one, the places in them, and the row that comes in below.
-use Rattle.std.proofs.Common.{◌≡◌, ℕ, ◌+◌, ◌-◌, ◌<◌, ◌≤◌, List, [], ◌∷◌, ◌++◌, cond, drop, filter, length, map, set, take, refl, ap, ap₂, subst, sym, ◌∙◌, arith}
+use Rattle.std.proofs.Common.{◌≡◌, ℕ, zero, suc, ◌+◌, ◌-◌, ◌<◌, ◌≤◌, List, [], ◌∷◌, ◌++◌, append_assoc, append-nil, cond, drop, filter, length, map, set, take, refl, ap, ap₂, subst, sym, ◌∙◌, arith}
 use Rattle.std.specs.List.{range_with_len}
 use Rattle.std.proofs.lemmas.List.{drop_all, drop_at, get_or_append_left, get_or_past, length-append, length-drop, map-append}
 use Rattle.standings.specs.Moved.{moved_up, place_up, spaces_row}
@@ -7,39 +7,47 @@ use Rattle.standings.specs.Rows.{Row, empty_row}
 use Rattle.standings.specs.Spans.{Stays, places_along, span_of}
 use Rattle.standings.specs.Standing.{begins, line_text, place_at, place_in, places_from, places_in, standing}
 use Rattle.standings.specs.declared.place.Place.{Place}
-use Rattle.standings.proofs.PlaceLemmas.{along_parts, along_within, count_is, from_along, standing_along}
+use Rattle.standings.proofs.PlaceLemmas.{along_parts, along_within, count_is, from_along, standing_along, within_more}
 
--- ---- the places of all rows but the first, a row further up
+-- ---- the places of all rows but the first ones, so many rows further up
 
-up_in : (above : ℕ) (starts : List ℕ) → map place_up (map (place_in (above + 1)) starts) ≡ map (place_in above) starts
-up_in above [] = refl
-up_in above (before ∷ starts) =
-    let here : above + 1 - 1 ≡ above = omega arith in
-    ap₂ (λ k l. place_in k before ∷ l) here (up_in above starts)
+-- a place, so many rows further up
+abbrev pub lifted : ℕ → Place → Place
+lifted n place = place_in (place.above - n) place.before
 
-up_from : (text : List ℕ) (rows : List Row) (above : ℕ) → map place_up (places_from text (above + 1) rows) ≡ places_from text above rows
+up_in : (n above : ℕ) (starts : List ℕ) → map (lifted n) (map (place_in (above + n)) starts) ≡ map (place_in above) starts
+up_in n above [] = refl
+up_in n above (before ∷ starts) =
+    let here : above + n - n ≡ above = omega arith in
+    ap₂ (λ k l. place_in k before ∷ l) here (up_in n above starts)
+
+pub up_from : (n : ℕ) (text : List ℕ) (rows : List Row) (above : ℕ) → map (lifted n) (places_from text (above + n) rows) ≡ places_from text above rows
 unfolding places_from
-up_from text [] above = refl
-up_from text (row ∷ rows) above =
+up_from n text [] above = refl
+up_from n text (row ∷ rows) above =
     let line = line_text (row ∷ rows) in
-    let n = length row.characters in
-    map-append place_up (places_in text (above + 1) line n) (places_from text (above + 1 + 1) rows)
-    ∙ ap₂ (λ a b. a ++ b) (up_in above (filter (begins text line) (range_with_len 0 n))) (up_from text rows (above + 1))
+    let m = length row.characters in
+    let next : above + n + 1 ≡ above + 1 + n = omega arith in
+    map-append (lifted n) (places_in text (above + n) line m) (places_from text (above + n + 1) rows)
+    ∙ ap₂ (λ a b. a ++ b) (up_in n above (filter (begins text line) (range_with_len 0 m)))
+    (ap (λ k. map (lifted n) (places_from text k rows)) next ∙ up_from n text rows (above + 1))
 
--- those of the first row are as many as stand above the second
-pub below_first : (text : List ℕ) (rows : List Row) (places : List Place) (c : ℕ) → 0 < length rows → places ≡ standing text rows → c ≤ length places
-    → ((k : ℕ) → k < c → (place_at places k).above < 1) → (c < length places → 1 ≤ (place_at places c).above) → drop c places ≡ places_from text 1 (drop 1 rows)
-below_first text rows places c some was within below ends =
-    let m = length rows - 1 in
-    let all : 1 + m ≡ length rows = omega arith in
-    let front = places_along text rows 0 1 in
-    let rest = places_along text rows 1 m in
-    let split : places ≡ front ++ rest = was ∙ standing_along text rows ∙ ap (places_along text rows 0) (sym all) ∙ along_parts text rows 1 m 0 in
+-- those of the first so many rows are as many as stand above the next
+pub below_first : (text : List ℕ) (rows : List Row) (places : List Place) (n c : ℕ) → n ≤ length rows → places ≡ standing text rows → c ≤ length places
+    → ((k : ℕ) → k < c → (place_at places k).above < n) → (c < length places → n ≤ (place_at places c).above) → drop c places ≡ places_from text n (drop n rows)
+below_first text rows places n c some was within below ends =
+    let m = length rows - n in
+    let all : n + m ≡ length rows = omega (arith, some) in
+    let from : 0 + n ≡ n = omega arith in
+    let front = places_along text rows 0 n in
+    let rest = places_along text rows n m in
+    let split : places ≡ front ++ rest =
+    was ∙ standing_along text rows ∙ ap (places_along text rows 0) (sym all) ∙ along_parts text rows n m 0 ∙ ap (λ k. front ++ places_along text rows k m) from in
     let cut : c ≡ length front =
-    count_is front rest 1 c 0 (1 + m) (along_within text rows 1 0) (along_within text rows m 1)
-    (subst (λ l. c ≤ length l) split within) (subst (λ l. (k : ℕ) → k < c → (place_at l k).above < 1) split below)
-    (subst (λ l. c < length l → 1 ≤ (place_at l c).above) split ends) in
-    ap (drop c) split ∙ drop_at front rest c (sym cut) ∙ sym (from_along text rows m 1 all)
+    count_is front rest n c 0 (n + m) (within_more front 0 (0 + n) 0 n (omega arith) (omega arith) (along_within text rows n 0)) (along_within text rows m n)
+    (subst (λ l. c ≤ length l) split within) (subst (λ l. (k : ℕ) → k < c → (place_at l k).above < n) split below)
+    (subst (λ l. c < length l → n ≤ (place_at l c).above) split ends) in
+    ap (drop c) split ∙ drop_at front rest c (sym cut) ∙ sym (from_along text rows m n all)
 
 pub places_up : (text : List ℕ) (rows : List Row) (places left : List Place) (c : ℕ) → places ≡ standing text rows → c ≤ length places
     → ((k : ℕ) → k < c → (place_at places k).above < 1) → (c < length places → 1 ≤ (place_at places c).above)
@@ -48,9 +56,9 @@ unfolding places_from
 places_up text [] places left c was within below ends leaves =
     ap (map place_up) (leaves ∙ ap (drop c) was ∙ drop_all c [] (omega arith))
 places_up text (row ∷ rows) places left c was within below ends leaves =
-    ap (map place_up) (leaves ∙ below_first text (row ∷ rows) places c (omega arith) was within below ends) ∙ up_from text rows 0
+    ap (map place_up) (leaves ∙ below_first text (row ∷ rows) places 1 c (omega arith) was within below ends) ∙ up_from 1 text rows 0
 
--- ---- a row without a character below the others
+-- ---- rows without a character below the others
 
 line_more : (rows : List Row) → line_text (rows ++ empty_row ∷ []) ≡ line_text rows
 unfolding line_text
@@ -65,6 +73,20 @@ from_more text (row ∷ rows) above =
 
 pub standing_below : (text : List ℕ) (rows : List Row) → standing text (rows ++ empty_row ∷ []) ≡ standing text rows
 standing_below text rows = from_more text rows 0
+
+abbrev pub blank_rows : ℕ → List Row
+blank_rows zero = []
+blank_rows (suc n) = empty_row ∷ blank_rows n
+
+pub blank_count : (n : ℕ) → length (blank_rows n) ≡ n
+blank_count zero = refl
+blank_count (suc n) = ap suc (blank_count n)
+
+pub standing_above : (text : List ℕ) (rows : List Row) (n : ℕ) → standing text (rows ++ blank_rows n) ≡ standing text rows
+standing_above text rows zero = ap (λ l. standing text l) (append-nil rows)
+standing_above text rows (suc n) =
+    ap (λ l. standing text l) (sym (append_assoc rows (empty_row ∷ []) (blank_rows n)))
+    ∙ standing_above text (rows ++ empty_row ∷ []) n ∙ standing_below text rows
 
 -- ---- the rows
 

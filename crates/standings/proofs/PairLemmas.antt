@@ -17,17 +17,19 @@ pair_none one other places others n m = λ left.
     let there : m + 0 ≡ m = omega arith in
     omega (arith, ap (λ k. count_left one (take k places) left) here, ap (λ k. count_left other (take k others) left) there)
 
--- one more on each screen, in rows of the same characters, behind as many of them
+-- places in rows of the same characters, behind as many of them, have the same to the left
+pub same_place : (one other : List Row) (place mate : Place) → (row_below one place.above).characters ≡ (row_below other mate.above).characters → place.before ≡ mate.before
+    → left_of one place ≡ left_of other mate
+same_place one other place mate row before = ap (λ b. take b (row_below one place.above).characters) before ∙ ap (take mate.before) row
+
+-- one more on each screen, with the same to the left
 pub pair_more : (one other : List Row) (places others : List Place) (n m k : ℕ) (alone alones : List Place) → n + k < length places → m + k < length others
-    → (row_below one (place_at places (n + k)).above).characters ≡ (row_below other (place_at others (m + k)).above).characters
-    → (place_at places (n + k)).before ≡ (place_at others (m + k)).before
+    → left_of one (place_at places (n + k)) ≡ left_of other (place_at others (m + k))
     → PairOff one (take (n + k) places) other (take (m + k) others) alone alones
     → PairOff one (take (n + (k + 1)) places) other (take (m + (k + 1)) others) alone alones
-pair_more one other places others n m k alone alones lt lt' row before pairs = λ left.
+pair_more one other places others n m k alone alones lt lt' same pairs = λ left.
     let here = left_of one (place_at places (n + k)) in
     let there = left_of other (place_at others (m + k)) in
-    let same : here ≡ there =
-    ap (λ b. take b (row_below one (place_at places (n + k)).above).characters) before ∙ ap (take (place_at others (m + k)).before) row in
     let both : cond {A = ℕ} (pointwise nat_eq here left) 1 0 ≡ cond (pointwise nat_eq there left) 1 0 =
     ap {B = ℕ} (λ l. cond (pointwise nat_eq l left) 1 0) same in
     let next : n + (k + 1) ≡ n + k + 1 = omega arith in

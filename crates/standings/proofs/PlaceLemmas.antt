@@ -83,13 +83,13 @@ pub record IsWithin (places : List Place) (low high : ℕ) : Type 0 where
   pub from : (j : ℕ) → j < length places → low ≤ (place_at places j).above
   pub to : (j : ℕ) → j < length places → (place_at places j).above < high
 
-within_both : (a b : List Place) (low high : ℕ) → IsWithin a low high → IsWithin b low high → IsWithin (a ++ b) low high
+pub within_both : (a b : List Place) (low high : ℕ) → IsWithin a low high → IsWithin b low high → IsWithin (a ++ b) low high
 within_both a b low high first second = record {
   from = are_both (λ place. low ≤ place.above) a b first.from second.from;
   to = are_both (λ place. place.above < high) a b first.to second.to;
 }
 
-within_more : (places : List Place) (low high low' high' : ℕ) → low' ≤ low → high ≤ high' → IsWithin places low high → IsWithin places low' high'
+pub within_more : (places : List Place) (low high low' high' : ℕ) → low' ≤ low → high ≤ high' → IsWithin places low high → IsWithin places low' high'
 within_more places low high low' high' lower higher is = record {
   from = λ j lt. omega (arith, lower, is.from j lt);
   to = λ j lt. omega (arith, higher, is.to j lt);
@@ -106,6 +106,15 @@ along_within text rows (suc n) above =
       to = part_all (λ place. place.above < above + suc n) text above line count 0 (λ i _ _. omega arith);
     })
     (within_more (places_along text rows (above + 1) n) (above + 1) (above + 1 + n) above (above + suc n) (omega arith) (omega arith) (along_within text rows n (above + 1)))
+
+-- a text that begins there has a character in its row
+pub along_fits : (text : List ℕ) (rows : List Row) (n above : ℕ) → AllAre (λ place. place.before < length (row_below rows place.above).characters) (places_along text rows above n)
+along_fits text rows zero above = λ j lt. absurd (omega (arith, lt))
+along_fits text rows (suc n) above =
+    are_both (λ place. place.before < length (row_below rows place.above).characters) (places_of text rows above) (places_along text rows (above + 1) n)
+    (part_all (λ place. place.before < length (row_below rows place.above).characters) text above (line_text (drop above rows)) (length (row_below rows above).characters) 0
+    (λ i _ lt. omega (arith, lt)))
+    (along_fits text rows n (above + 1))
 
 -- so many of them stand above a row
 pub count_is : (a b : List Place) (n c low high : ℕ) → IsWithin a low n → IsWithin b n high → c ≤ length (a ++ b)
@@ -125,7 +134,7 @@ count_is a b n c low high first second within below ends = elim (cases_lt c (len
 ]
 
 -- so where they were passed from the last one on
-count_late : (a b : List Place) (n c low high : ℕ) → IsWithin a low n → IsWithin b n high → c ≤ length (a ++ b)
+pub count_late : (a b : List Place) (n c low high : ℕ) → IsWithin a low n → IsWithin b n high → c ≤ length (a ++ b)
     → (0 < c → (place_at (a ++ b) (c - 1)).above < n) → ((k : ℕ) → c ≤ k → k < length (a ++ b) → n ≤ (place_at (a ++ b) k).above) → c ≡ length a
 count_late a b n c low high first second within early late = elim (cases_lt c (length a)) [
   | inl few ↦

@@ -88,7 +88,7 @@ pub up_keeps : (text : List ℕ) (columns : ℕ) (rows : List Row) (places : Lis
     → (0 < length places → 1 ≤ (place_at places 0).above) → Keeps text rows (moved_up columns rows)
 up_keeps text columns rows places some was ends = λ left.
     let rest : standing text rows ≡ places_from text 1 (drop 1 rows) =
-    sym was ∙ below_first text rows places 0 some was (omega arith) (λ k lt. absurd (omega (arith, lt))) ends in
+    sym was ∙ below_first text rows places 1 0 some was (omega arith) (λ k lt. absurd (omega (arith, lt))) ends in
     omega (
       arith,
       ap (λ l. count_left rows l left) rest,

@@ -1,6 +1,6 @@
 //! Rows of two screens that pair off, and the places of those that stand alone.
 
-ghost use Rattle.std.specs.Prelude.{◌≡◌, ◌+◌, ◌-◌, ◌<◌, ◌≤◌, true, List, ℕ, drop, length, take, IfOk};
+ghost use Rattle.std.specs.Prelude.{◌≡◌, ◌+◌, ◌-◌, ◌<◌, ◌≤◌, true, List, ℕ, [], drop, length, take, IfOk};
 ghost use Rattle.standings.specs.Lag.{Lags};
 ghost use Rattle.standings.specs.Less.{Agree, PairOff};
 ghost use Rattle.standings.specs.Rows.{Row, row_below};
@@ -8,7 +8,7 @@ ghost use Rattle.standings.specs.Standing.{count_left, left_of, place_at, standi
 
 use crate::lag::Lag;
 use crate::left::Standing;
-use crate::place::{Place, count_up_to, reach_start};
+use crate::place::{Place, count_above, count_up_to, reach_start};
 use crate::row::{Row, characters_below};
 use std::alloc::{AllocError, Global};
 
@@ -40,6 +40,9 @@ impl Alone {
             → IfOk result (λ alone. PairOff one.now.rows.items one.now.places.items
             other.now.rows.items other.now.places.items alone.one.items alone.other.items) }
     {
+        if lag.moved > 0 {
+            return Alone::of_moved(alloc, one, other, lag, len);
+        }
         let cut = Cut::of(one, other, lag, len);
         Alone::between(
             alloc,
@@ -49,6 +52,36 @@ impl Alone {
             &other.places.as_slice()[cut.from..cut.there],
             lag,
         )
+    }
+
+    /// The same where rows moved. Those that came up pair off with themselves, as far as the text goes on in none that may
+    /// differ: only the places in rows that went out at the top are looked at, and those further down.
+    fn of_moved(
+        alloc: Global,
+        one: &Standing,
+        other: &Standing,
+        lag: Lag,
+        len: usize,
+    ) -> Result<Self, AllocError>
+        ensures { (text : List ℕ) → length text ≡ len → one.now.places.items ≡ standing text one.now.rows.items
+            → other.now.places.items ≡ standing text other.now.rows.items
+            → Lags lag one.now.rows.items other.now.rows.items
+            → IfOk result (λ alone. PairOff one.now.rows.items one.now.places.items
+            other.now.rows.items other.now.places.items alone.one.items alone.other.items) }
+    {
+        let (here, places) = (one.rows.as_slice(), one.places.as_slice());
+        let (rows, others) = (other.rows.as_slice(), other.places.as_slice());
+        let from = lag.span.from.min(rows.len().saturating_sub(lag.moved));
+        let start = reach_start(rows, len, from);
+        let count = count_up_to(others, others.len(), start);
+        let gone = count_above(places, lag.moved);
+        if lag.moved > rows.len() || places.len() - gone < count {
+            return Alone::between(alloc, here, places, rows, others, lag);
+        }
+        let rest = &places[gone + count..];
+        let mut alone = Alone::between(alloc, here, rest, rows, &others[count..], lag)?;
+        alone.one.extend_from_slice(&places[..gone])?;
+        Ok(alone)
     }
 
     /// Those of some places of two screens.
@@ -67,7 +100,8 @@ impl Alone {
             one: Vec::new(alloc),
             other: Vec::new(alloc),
         };
-        let (mut at, mut there) = (0, 0);
+        let begun = count_begun(one, places, other, others, lag);
+        let (mut at, mut there) = (begun, begun);
         while there < others.len() {
             let pair = next_pair(one, places, at, other, others, there, lag);
             if pair.count == 0 {
@@ -114,8 +148,8 @@ impl Alone {
     }
 }
 
-/// The places of two screens that are looked at, from one on: up to one of the one and one of the other. All others are the
-/// same on both.
+/// The places of two screens of which no row moved that are looked at, from one on: up to one of the one and one of the
+/// other. All others are the same on both.
 #[derive(Clone, Copy)]
 struct Cut {
     from: usize,
@@ -125,8 +159,9 @@ struct Cut {
 
 impl Cut {
     /// Those in the rows that may differ where the one lags so, and in those above from which a text of so many characters
-    /// may go on in them; all where rows moved.
+    /// may go on in them.
     fn of(one: &Standing, other: &Standing, lag: Lag, len: usize) -> Self
+        requires { lag.moved ≡ 0 }
         ensures order { result.from ≤ result.to }
         ensures within { result.to ≤ length one.now.places.items }
         ensures order_there { result.from ≤ result.there }
@@ -139,14 +174,6 @@ impl Cut {
             (take (result.there - result.from) (drop result.from other.now.places.items)) }
     {
         let (count, all) = (one.places.len(), other.places.len());
-        let whole = Cut {
-            from: 0,
-            to: count,
-            there: all,
-        };
-        if lag.moved > 0 {
-            return whole;
-        }
         let rows = other.rows.as_slice();
         let places = one.places.as_slice();
         let end = lag.span.to.min(rows.len());
@@ -155,7 +182,11 @@ impl Cut {
         let from = count_up_to(places, behind, start);
         let least = count - behind + from;
         if all < least {
-            return whole;
+            return Cut {
+                from: 0,
+                to: count,
+                there: all,
+            };
         }
         Cut {
             from,
@@ -234,6 +265,41 @@ fn count_kept(
         count += 1;
     }
     count
+}
+
+/// How many of the first places of two screens pair off, since a row that alone may differ begins alike with them.
+fn count_begun(one: &[Row], places: &[Place], other: &[Row], others: &[Place], lag: Lag) -> usize
+    ensures within { result ≤ length places.now }
+    ensures there { result ≤ length others.now }
+    ensures pairs { PairOff one.now (take result places.now) other.now (take result others.now) [] [] }
+{
+    if !is_one_row(lag) || !begin_alike(places, others) {
+        return 0;
+    }
+    let above = lag.span.from;
+    let mut agreed = AgreedRows::of(one, above, other, above);
+    let most = places.len().min(others.len());
+    let mut count = 0;
+    while count < most {
+        if !agreed.are_same(one, places[count], other, others[count]) {
+            return count;
+        }
+        count += 1;
+    }
+    count
+}
+
+/// Whether one row alone may differ where rows lag so.
+fn is_one_row(lag: Lag) -> bool {
+    lag.moved == 0 && lag.span.to > lag.span.from && lag.span.to - lag.span.from == 1
+}
+
+/// Whether the first of some places and of others are the same.
+fn begin_alike(places: &[Place], others: &[Place]) -> bool {
+    !places.is_empty()
+        && !others.is_empty()
+        && places[0].above == others[0].above
+        && places[0].before == others[0].before
 }
 
 /// How many places of two screens, from these on, pair off: they stand in rows of the same characters, behind as many of

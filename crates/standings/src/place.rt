@@ -158,7 +158,7 @@ fn lift(places: &mut [Place])
 }
 
 /// How many places in reading order stand in rows above one.
-fn count_above(places: &[Place], above: usize) -> usize
+pub(crate) fn count_above(places: &[Place], above: usize) -> usize
     ensures within { result ≤ length places.now }
     ensures below { (k : ℕ) → k < result → (place_at places.now k).above < above }
     ensures ends { result < length places.now → above ≤ (place_at places.now result).above }

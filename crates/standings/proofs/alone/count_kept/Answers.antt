@@ -1,6 +1,7 @@
-use Rattle.std.proofs.Common.{ap, arith, sym, take}
+use Rattle.std.proofs.Common.{◌+◌, ap, arith, sym, take}
 use Rattle.standings.specs.Rows.{Row}
-use Rattle.standings.proofs.PairLemmas.{pair_more, pair_none}
+use Rattle.standings.specs.Standing.{place_at}
+use Rattle.standings.proofs.PairLemmas.{pair_more, pair_none, same_place}
 use Rattle.standings.proofs.alone.count_kept.Goals as goal
 
 pub loop-count-init : goal.loop-count-init
@@ -18,5 +19,7 @@ loop-count-preserved c =
     record {
       few = omega (arith, c.loop-count-test.true);
       pairs = λ lags. pair_more one other places others c.args.at c.args.there c.loop-count.count (take c.args.at places) (take c.args.there others) (omega arith) (omega arith)
-          (ap (λ (r : Row). r.characters) (sym (c.stays.ensures.row c.if-stays.true one other (omega arith) lags))) (c.stays.ensures.before c.if-stays.true) (c.loop-count.invariant.pairs lags);
+          (same_place one other (place_at places (c.args.at + c.loop-count.count)) (place_at others (c.args.there + c.loop-count.count))
+          (ap (λ (r : Row). r.characters) (sym (c.stays.ensures.row c.if-stays.true one other (omega arith) lags))) (c.stays.ensures.before c.if-stays.true))
+          (c.loop-count.invariant.pairs lags);
     }

@@ -1,9 +1,10 @@
-use Rattle.std.proofs.Common.{◌≡◌, ◌∙◌, ap, arith, nat_eq, sym, take}
+use Rattle.std.proofs.Common.{◌+◌, ◌≡◌, ◌∙◌, ap, arith, nat_eq, sym, take}
 use Rattle.std.specs.Cmp.Lexicographic.{pointwise}
 use Rattle.std.proofs.lemmas.Bool.{not-false}
 use Rattle.standings.specs.Rows.{row_below}
 use Rattle.standings.proofs.LeftLemmas.{same_left}
-use Rattle.standings.proofs.PairLemmas.{pair_more}
+use Rattle.standings.specs.Standing.{place_at}
+use Rattle.standings.proofs.PairLemmas.{pair_more, same_place}
 use Rattle.standings.proofs.alone.count_paired.Goals as goal
 
 pub loop-count-preserved : goal.loop-count-preserved
@@ -19,8 +20,9 @@ loop-count-preserved c =
     record {
       few = omega (arith, c.loop-count-test.true);
       pairs = pair_more one other places others c.args.at c.args.there c.loop-count.count (take c.args.at places) (take c.args.there others) (omega arith) (omega arith)
+          (same_place one other (place_at places (c.args.at + c.loop-count.count)) (place_at others (c.args.there + c.loop-count.count))
           (ap (λ k. (row_below one k).characters) alike.0 ∙ sym c.characters_below.ensures ∙ same ∙ c.characters_below-2.ensures
           ∙ ap (λ k. (row_below other k).characters) (sym alike.1))
-          alike.2
+          alike.2)
           c.loop-count.invariant.pairs;
     }

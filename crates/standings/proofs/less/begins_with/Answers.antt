@@ -1,4 +1,4 @@
-use Rattle.std.proofs.Common.{◌≡◌, ◌-◌, ◌<◌, ◌∙◌, ap, arith, get_or, inl, inr, length, nat_eq, sym}
+use Rattle.std.proofs.Common.{◌-◌, ◌<◌, ◌∙◌, arith, inl, inr, length, nat_eq, sym}
 use Rattle.std.specs.List.{starts_with}
 use Rattle.std.proofs.lemmas.Bool.{cases_Bool, eq-eqb, false≢true}
 use Rattle.std.proofs.lemmas.List.{get_or_read}

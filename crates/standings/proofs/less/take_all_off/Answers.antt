@@ -1,4 +1,4 @@
-use Rattle.std.proofs.Common.{◌≡◌, ◌<◌, ℕ, arith, false, length, nat_eq, subst, take, true}
+use Rattle.std.proofs.Common.{◌≡◌, ◌<◌, ℕ, arith, false, length, nat_eq, subst, take}
 use Rattle.std.specs.List.{starts_with}
 use Rattle.standings.specs.Rows.{row_below}
 use Rattle.standings.proofs.SurplusLemmas.{none_here, none_long}

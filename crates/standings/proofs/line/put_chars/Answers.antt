@@ -1,4 +1,4 @@
-use Rattle.std.proofs.Common.{◌+◌, arith, encode_utf8, subst, sym}
+use Rattle.std.proofs.Common.{◌+◌, arith, subst, sym}
 use Rattle.held.specs.Held.{Wrote}
 use Rattle.held.proofs.HeldLemmas.{wrote_both}
 use Rattle.standings.proofs.SpeltLemmas.{spelt_split}

@@ -1,8 +1,21 @@
-use Rattle.std.proofs.Common.{◌≡◌, ◌+◌, ◌-◌, ◌++◌, ◌∙◌, ap, arith, drop, length, subst, sym, take}
+use Rattle.std.proofs.Common.{◌≡◌, ◌+◌, ◌-◌, ◌++◌, ◌∙◌, ap, arith, drop, subst, sym, take}
 use Rattle.std.proofs.lemmas.List.{take_rest}
 use Rattle.standings.specs.Less.{PairOff}
+use Rattle.standings.specs.Standing.{count_left}
 use Rattle.standings.proofs.PairLemmas.{pair_alone, pair_last, pair_next}
 use Rattle.standings.proofs.alone.Alone.between.Goals as goal
+
+pub loop-there-init : goal.loop-there-init
+loop-there-init c = record {
+  within = c.count_begun-begun.ensures.within;
+  there = c.count_begun-begun.ensures.there;
+  pairs = λ lags. λ left. omega (
+    arith,
+    c.count_begun-begun.ensures.pairs left,
+    ap (λ l. count_left c.args.one.now l left) c.new.ensures.items,
+    ap (λ l. count_left c.args.other.now l left) c.new-2.ensures.items,
+  );
+}
 
 pub loop-there-preserved-then-pair-eq0 : goal.loop-there-preserved-then-pair-eq0
 loop-there-preserved-then-pair-eq0 c =

@@ -1,4 +1,4 @@
-use Rattle.std.proofs.Common.{◌-◌, ◌+◌, ap, ap₂, arith, drop, subst, sym, take}
+use Rattle.std.proofs.Common.{◌-◌, ap, ap₂, arith, drop, subst, sym, take}
 use Rattle.std.proofs.lemmas.Result.{IfOk-weaker}
 use Rattle.standings.specs.Lag.{Lags}
 use Rattle.standings.specs.Less.{PairOff}

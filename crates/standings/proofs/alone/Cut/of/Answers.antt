@@ -6,13 +6,6 @@ use Rattle.standings.proofs.CutLemmas.{cut_pairs}
 use Rattle.standings.proofs.PairLemmas.{pair_all}
 use Rattle.standings.proofs.alone.Cut.of.Goals as goal
 
-pub returns-then-lag-gt0-clause-others : goal.returns-then-lag-gt0-clause-others
-returns-then-lag-gt0-clause-others c = λ text many was came lags.
-    let one = c.args.one.now in
-    let other = c.args.other.now in
-    pair_all one.rows.items other.rows.items one.places.items other.places.items c.len-count.result c.len-all.result
-    (omega (arith, c.len-count.ensures, one.places.ok.0)) (omega (arith, c.len-all.ensures, other.places.ok.0))
-
 pub returns-then-all-least-clause-others : goal.returns-then-all-least-clause-others
 returns-then-all-least-clause-others c = λ text many was came lags.
     let one = c.args.one.now in
@@ -34,7 +27,7 @@ returns-clause-others c = λ text many was came lags.
     let places = c.as_slice-places.ensures.value in
     let ends = subst (λ r. 0 < reach → (row_below r (reach - 1)).runs_on ≡ true → c.args.len ≤ characters_in r reach (lag.span.from - reach) + 1) rows c.reach_start.ensures.ends in
     cut_pairs text lag one.rows.items other.rows.items one.places.items other.places.items reach start end from to (c.len-all.result - (c.len-count.result - to))
-    (omega (arith, c.if-lag-gt0.false)) was came lags c.reach_start.ensures.within (λ some runs. omega (arith, many, ends some runs))
+    c.requires was came lags c.reach_start.ensures.within (λ some runs. omega (arith, many, ends some runs))
     c.min-start.ensures (omega (arith, c.min-end.ensures, ap length rows))
     (omega (arith, c.count_up_to-behind.ensures.within, c.len-count.ensures, one.places.ok.0))
     (subst (λ l. 0 < to → (place_at l (to - 1)).above < end) places c.count_up_to-behind.ensures.early)

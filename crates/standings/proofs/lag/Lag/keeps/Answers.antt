@@ -1,4 +1,4 @@
-use Rattle.std.proofs.Common.{◌-◌, ◌∙◌, ap, arith, sym}
+use Rattle.std.proofs.Common.{◌∙◌, ap, arith, sym}
 use Rattle.std.proofs.lemmas.Bool.{false≢true}
 use Rattle.standings.specs.Moved.{turned}
 use Rattle.standings.specs.Rows.{row_below}
