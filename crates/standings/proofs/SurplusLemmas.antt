@@ -2,14 +2,14 @@
 use Rattle.std.proofs.Common.{◌≡◌, ℕ, suc, ◌+◌, ◌-◌, ◌*◌, ◌<◌, ◌≤◌, ◌&&◌, ◌||◌, Bool, false, true, List, drop, get_or, length, nat_eq, nat_le, set, take, cond, refl, ap, sym, ◌∙◌, arith, inl, inr}
 use Rattle.std.specs.Cmp.Lexicographic.{pointwise}
 use Rattle.std.specs.List.{starts_with}
-use Rattle.std.proofs.Math.Nat.{mul-suc}
+use Rattle.std.proofs.Math.Nat.{mul-le-mul_left, mul-suc}
 use Rattle.std.proofs.lemmas.Bool.{cases_Bool, cases_eq, cases_lt, false≢true, le-leb, lt-leb}
-use Rattle.std.proofs.lemmas.List.{get_or-drop, get_or-set_other, get_or-set_same, get_or-take, get_or_past, length-take, take-take}
+use Rattle.std.proofs.lemmas.List.{drop-drop, get_or-drop, get_or-set_other, get_or-set_same, get_or-take, get_or_past, length-take, take-take}
 use Rattle.standings.specs.Less.{for_left, is_last}
 use Rattle.standings.specs.Rows.{Row, empty_row, row_below}
 use Rattle.standings.specs.Standing.{count_left, left_of, place_at}
 use Rattle.standings.specs.declared.place.Place.{Place}
-use Rattle.standings.proofs.CountLemmas.{counted, counted_from, one_has}
+use Rattle.standings.proofs.CountLemmas.{count_rest, counted, counted_from, one_has}
 use Rattle.standings.proofs.LeftLemmas.{for_set, front_fits, front_is, is_front, left_same, other_left, same_left}
 
 -- ---- counted
@@ -90,6 +90,13 @@ take_spent_off row counts was rows places each k left lt spent begins so_far =
           so_far ∙ ap (λ m. for_left was left - each * m) (sym same)
     ]
 
+-- where none is left of any, no further place takes one
+pub none_off : (rows : List Row) (places : List Place) (each k all now : ℕ) (left : List ℕ) → now ≡ 0
+    → now ≡ all - each * count_left rows (take k places) left → now ≡ all - each * count_left rows places left
+none_off rows places each k all now left none so_far =
+    let part : count_left rows (take k places) left ≤ count_left rows places left = omega (arith, count_rest rows places k left) in
+    omega (arith, none, so_far, mul-le-mul_left each part)
+
 -- ---- taken off from the last place on, where those behind place k are those from the next one on
 
 -- where some are left
@@ -158,6 +165,23 @@ not_told row counts was rows places k next lt is_next spent so_far =
           is_told row counts was rows places k next (length here) lt is_next refl begins so_far ∙ ap (nat_le 1) (spent begins)
       | inr fails ↦ rw fails refl
     ]
+
+-- where none is left of any, no place before is
+pub none_last : (row counts was : List ℕ) (rows : List Row) (places : List Place) (n at : ℕ) → n < at → at ≤ length places → ((k : ℕ) → get_or counts k 0 ≡ 0)
+    → ((left : List ℕ) → starts_with nat_eq row left ≡ true → for_left counts left ≡ for_left was left - count_left rows (drop at places) left)
+    → is_last row rows places was n ≡ false
+none_last row counts was rows places n at low within none so_far =
+    let m = at - (n + 1) in
+    let there : n + 1 + m ≡ at = omega (arith, low) in
+    not_told row counts was rows places n (n + 1) (omega (arith, low, within)) refl (λ _. none (length (left_of rows (place_at places n))))
+    (λ left begins. omega (
+      arith,
+      none (length left),
+      so_far left begins,
+      count_rest rows (drop (n + 1) places) m left,
+      ap (λ l. count_left rows l left) (drop-drop m (n + 1) places),
+      ap (λ k. count_left rows (drop k places) left) there,
+    ))
 
 -- ---- what is told, a place further
 

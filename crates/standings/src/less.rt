@@ -592,14 +592,30 @@ fn some_begins(rows: &[Row], front: &[char]) -> bool
     false
 }
 
-/// Whether some characters begin with others.
+/// Whether some characters begin with others: mostly the last of these, or one in their middle, tells that they don't.
 #[inline(always)]
 fn begins_with(characters: &[char], front: &[char]) -> bool
     requires { 0 < length front.now }
     ensures { result ≡ starts_with nat_eq characters.now front.now }
 {
     let last = front.len() - 1;
-    last < characters.len() && characters[last] == front[last] && characters.starts_with(front)
+    if last >= characters.len() {
+        return false;
+    }
+    if differ_at(characters, front, last) || differ_at(characters, front, last / 2) {
+        return false;
+    }
+    characters.starts_with(front)
+}
+
+/// Whether some characters don't begin with others, since the ones behind so many differ.
+#[inline(always)]
+fn differ_at(characters: &[char], front: &[char], at: usize) -> bool
+    requires characters { at < length characters.now }
+    requires front { at < length front.now }
+    ensures { result ≡ true → starts_with nat_eq characters.now front.now ≡ false }
+{
+    characters[at] != front[at]
 }
 
 /// Whether no left part has a surplus. It goes over all of them with no way out, since that is done many at a time.
@@ -614,6 +630,15 @@ fn is_spent(surplus: &[usize]) -> bool
         some |= *count > 0;
     }
     !some
+}
+
+/// Whether no left part has a surplus any more, as it was taken from one of so many characters.
+#[inline]
+fn is_spent_by(surplus: &[usize], len: usize) -> bool
+    requires { len < length surplus.now }
+    ensures { result ≡ true → (k : ℕ) → slice_index_or surplus.now k 0 ≡ 0 }
+{
+    surplus[len] == 0 && is_spent(surplus)
 }
 
 /// Counts how many places have each left part that a row begins with: the one below so many others.
@@ -631,8 +656,8 @@ fn count_lefts(row: &[char], above: usize, rows: &[Row], places: &[Place], count
     }
 }
 
-/// Takes so many off for each place with a left part that a row begins with. None is left of one of fewer than so many
-/// characters.
+/// Takes so many off for each place with a left part that a row begins with, as long as some are left. None is left of one
+/// of fewer than so many characters.
 fn take_off(
     row: &[char],
     rows: &[Row],
@@ -647,9 +672,14 @@ fn take_off(
         → for_left counts.new left ≡ for_left counts.old left - each * count_left rows.now places.now left }
 {
     let mut agreed = Agreed::with_none(row, rows);
+    let mut spent = false;
     for place in places {
+        if spent {
+            return;
+        }
         if let Some(len) = agreed.len_from(least, row, rows, *place, counts) {
             counts[len] = counts[len].saturating_sub(each);
+            spent = is_spent_by(counts, len);
         }
     }
 }
@@ -671,11 +701,16 @@ fn tell_last(row: &[char], above: usize, still: &Standing, surplus: &mut [usize]
     let rows = still.rows.as_slice();
     let mut agreed = Agreed::with_itself(row, rows, above);
     let mut at = still.places.len();
+    let mut spent = false;
     while at > 0 {
+        if spent {
+            return;
+        }
         at -= 1;
         if let Some(len) = agreed.len_from(least, row, rows, still.places[at], surplus) {
             surplus[len] -= 1;
             told[at] = true;
+            spent = is_spent_by(surplus, len);
         }
     }
 }

@@ -5,7 +5,7 @@ ghost use Rattle.std.specs.List.{flat_map, suffix_len};
 ghost use Rattle.held.specs.Held.{Wrote};
 ghost use Rattle.tape_core.specs.Devices.{Gave};
 ghost use Rattle.tape_core.specs.Written.{seconds_form};
-ghost use Rattle.standings.specs.Lines.{AreReady, row_spelled};
+ghost use Rattle.standings.specs.Lines.{AreReady, front_spelled, row_spelled};
 ghost use Rattle.standings.specs.Rows.{Row};
 ghost use Rattle.standings.specs.Found.{column_of, found_line, found_rows, heading, line_of, rows_reaching};
 
@@ -25,6 +25,9 @@ const TOGETHER: usize = 16;
 /// How many bytes of a row are known at most: those of 160 columns, whatever stands there.
 const ROOM: usize = 640;
 
+/// How many bytes stand at most between the sign of a line and its column: two numbers, seconds and four spaces.
+const FRONT: usize = 65;
+
 /// A chunk's place, when it is due, and how long the text is that is looked for.
 #[derive(Clone, Copy, Debug)]
 pub struct Moment {
@@ -33,7 +36,8 @@ pub struct Moment {
     pub len: usize,
 }
 
-/// What the lines of a moment share: when it is due, as text, and the row of the last one, in UTF-8.
+/// What the lines of a moment share: when it is due, as text, and the row of the last one, in UTF-8, with what stands before
+/// its columns.
 #[derive(Drop)]
 pub struct Lines {
     pub moment: Moment,
@@ -41,6 +45,7 @@ pub struct Lines {
     held: ArrayVec<u8, HELD>,
     known: bool,
     above: usize,
+    front: ArrayVec<u8, FRONT>,
     text: ArrayVec<u8, ROOM>,
 }
 
@@ -56,6 +61,7 @@ impl Lines {
             held: ArrayVec::new(),
             known: false,
             above: 0,
+            front: ArrayVec::new(),
             text: ArrayVec::new(),
         }
     }
@@ -87,9 +93,7 @@ impl Lines {
         }
         put_spelled(
             sign,
-            self.moment,
-            &self.due,
-            place.above,
+            self.front.as_slice(),
             column_below(rows, place.above, place.before),
             self.text.as_slice(),
             &mut self.held,
@@ -102,6 +106,7 @@ impl Lines {
     fn know(&mut self, rows: &[Row], above: usize) -> bool
         requires { AreReady self.old rows.now }
         ensures ready { AreReady self.new rows.now }
+        ensures front { result ≡ true → self.new.front.items ≡ front_spelled self.old.moment above }
         ensures text { result ≡ true → self.new.text.items ≡ row_spelled rows.now above }
         ensures moment { self.new.moment ≡ self.old.moment }
     {
@@ -109,11 +114,47 @@ impl Lines {
             return true;
         }
         let row = characters_below(rows, above);
+        self.front.clear();
         self.text.clear();
         self.above = above;
-        self.known = spell_row(&row[..unspaced_len(row)], &mut self.text);
+        self.known = spell_front(self.moment.index, &self.due, above, &mut self.front)
+            && spell_row(&row[..unspaced_len(row)], &mut self.text);
         self.known
     }
+}
+
+/// The text becomes what stands between the sign and the column in the lines of a row of a chunk that is due then; says
+/// whether there was room.
+fn spell_front(
+    index: usize,
+    due: &SecondsText,
+    above: usize,
+    text: &mut ArrayVec<u8, FRONT>,
+) -> bool
+    requires { text.old.items ≡ [] }
+    ensures { result ≡ true → text.new.items ≡ (32 ∷ []) ++ decimal index ++ (32 ∷ []) ++ due.now ++ (32 ∷ [])
+        ++ decimal (above + 1) ++ (32 ∷ []) }
+{
+    if above == usize::MAX || !add_word(Buffer::new().format(index).as_bytes(), text) {
+        return false;
+    }
+    if !add_word(due.as_bytes(), text) {
+        return false;
+    }
+    if !add_word(Buffer::new().format(above + 1).as_bytes(), text) {
+        return false;
+    }
+    text.try_push(b' ').is_ok()
+}
+
+/// Puts a space and a word behind a text, if there is room.
+fn add_word(word: &[u8], text: &mut ArrayVec<u8, FRONT>) -> bool
+    ensures { result ≡ true → text.new.items ≡ text.old.items ++ (32 ∷ []) ++ word.now }
+{
+    if text.try_push(b' ').is_err() {
+        return false;
+    }
+    text.try_extend_from_slice(word).is_ok()
 }
 
 /// The text becomes that of a row in UTF-8; says whether there was room.
@@ -221,25 +262,25 @@ fn put_line<W: Write>(
     let_out(&mut held, writer);
 }
 
-/// Writes the line of a column of the row below so many others, with these bytes.
+/// Writes the line of a column, with these bytes before it and behind it.
 fn put_spelled<W: Write>(
     sign: u8,
-    moment: Moment,
-    due: &SecondsText,
-    above: usize,
+    front: &[u8],
     column: u16,
     text: &[u8],
     held: &mut ArrayVec<u8, HELD>,
     writer: &mut Watched<W>,
 )
-    requires due { due.now ≡ seconds_form moment.due }
-    requires held { held.old.items ≡ [] }
+    requires { held.old.items ≡ [] }
     ensures gave { Gave W.contents writer.old writer.new
-        (heading sign moment.index moment.due (above + 1) column ++ text.now ++ 10 ∷ []) }
+        ((sign ∷ []) ++ front.now ++ decimal column ++ (32 ∷ []) ++ text.now ++ 10 ∷ []) }
     ensures held { held.new.items ≡ [] }
 {
     gives_join::<W>();
-    put_heading(sign, moment, due, above, column, held, writer);
+    put_byte(sign, held, writer);
+    put(front, held, writer);
+    put_number(column as usize, held, writer);
+    put_byte(b' ', held, writer);
     put(text, held, writer);
     put_byte(b'\n', held, writer);
     let_out(held, writer);

@@ -1,9 +1,9 @@
-use Rattle.std.proofs.Common.{◌-◌, ◌*◌, ◌∙◌, ap, arith, get_or, refl}
+use Rattle.std.proofs.Common.{◌-◌, ◌*◌, ◌∙◌, ap, arith, get_or, length, refl, sym}
 use Rattle.std.proofs.lemmas.List.{take_all}
 use Rattle.standings.specs.Less.{for_left}
 use Rattle.standings.specs.Standing.{count_left, left_of, place_at}
 use Rattle.standings.proofs.LeftLemmas.{front_fits}
-use Rattle.standings.proofs.SurplusLemmas.{none_still, take_more_off, take_spent_off}
+use Rattle.standings.proofs.SurplusLemmas.{none_off, none_still, take_more_off, take_spent_off}
 use Rattle.standings.proofs.less.take_off.Goals as goal
 use Rattle.standings.proofs.less.take_off.Goals.{in-Some, in_default}
 
@@ -33,7 +33,16 @@ loop-place-preserved c =
             ∙ take_spent_off row counts was rows places c.args.each k left c.loop-place-test.true
             (w.in_default.ensures.none refl) begins (c.loop-place.invariant.left left begins)
       ];
+      spent = elim c.match-len_from.branch [
+        | in-Some w ↦ λ is k. ap (λ l. get_or l k 0) w.counts-is ∙ w.is_spent_by-spent.ensures (sym w.spent-is ∙ is) k
+        | in_default w ↦ λ is k. ap (λ l. get_or l k 0) w.counts-is ∙ c.loop-place.invariant.spent (sym w.spent-is ∙ is) k
+      ];
     }
+
+pub returns-then-spent : goal.returns-then-spent
+returns-then-spent c = λ left begins.
+    none_off c.args.rows.now c.args.places.now c.args.each c.loop-place.place-index (for_left c.args.counts.now left) (for_left c.loop-place.counts left) left
+    (c.loop-place.invariant.spent c.if-spent.true (length left)) (c.loop-place.invariant.left left begins)
 
 pub returns : goal.returns
 returns c = λ left begins.

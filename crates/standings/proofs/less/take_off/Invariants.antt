@@ -12,4 +12,5 @@ invariant-loop-place l = record {
   none : (k : ℕ) → k < l.least → slice_index_or l.counts k 0 ≡ 0;
   left : (left : List ℕ) → starts_with nat_eq l.row left ≡ true
       → for_left l.counts left ≡ for_left l.fn.counts left - l.each * count_left l.rows (take l.place-index l.places) left;
+  spent : l.spent ≡ true → (k : ℕ) → slice_index_or l.counts k 0 ≡ 0;
 }

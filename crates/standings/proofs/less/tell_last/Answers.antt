@@ -1,12 +1,12 @@
-use Rattle.std.proofs.Common.{◌≡◌, ◌+◌, ◌-◌, ◌<◌, ◌∙◌, ◌&&◌, ◌||◌, ap, arith, false, get_or, length, nat_eq, refl, sym, true}
+use Rattle.std.proofs.Common.{◌≡◌, ◌+◌, ◌-◌, ◌<◌, ◌∙◌, ◌&&◌, ◌||◌, ap, arith, false, get_or, inl, inr, length, nat_eq, refl, sym, true}
 use Rattle.std.specs.List.{starts_with}
-use Rattle.std.proofs.lemmas.Bool.{le-leb}
+use Rattle.std.proofs.lemmas.Bool.{cases_lt, le-leb, lt-leb}
 use Rattle.std.proofs.lemmas.List.{get_or_default}
 use Rattle.standings.specs.Less.{for_left, is_last}
 use Rattle.standings.specs.Standing.{left_of, place_at, place_in}
 use Rattle.standings.specs.declared.place.Place.{Place}
 use Rattle.standings.proofs.LeftLemmas.{front_fits}
-use Rattle.standings.proofs.SurplusLemmas.{is_told, last_off, last_spent, none_long, none_still, none_told, not_told, told_more, told_same}
+use Rattle.standings.proofs.SurplusLemmas.{is_told, last_off, last_spent, none_last, none_long, none_still, none_told, not_told, told_more, told_same}
 use Rattle.standings.proofs.less.tell_last.Goals as goal
 
 pub returns-then-least-row : goal.returns-then-least-row
@@ -39,6 +39,7 @@ loop-at-preserved-in-Some c =
           (is_told row counts was rows places k next len lt is_next many begins c.loop-at.invariant.left ∙ le-leb 1 (get_or counts len 0) c.in-Some.ensures.more)
           (c.loop-at.invariant.told n lt');
       none = λ m. none_still counts c.least_len-least.result len (get_or counts len 0 - 1) m c.loop-at.invariant.none c.in-Some.ensures.more;
+      spent = c.is_spent_by-spent.ensures;
     }
 
 pub loop-at-preserved : goal.loop-at-preserved
@@ -63,7 +64,27 @@ loop-at-preserved c =
       told = λ n lt'. told_same c.loop-at.told c.args.told.now (is_last row rows places was) k next n is_next
           (not_told row counts was rows places k next lt is_next spent c.loop-at.invariant.left) (c.loop-at.invariant.told n lt');
       none = c.loop-at.invariant.none;
+      spent = c.loop-at.invariant.spent;
     }
+
+pub returns-then-spent : goal.returns-then-spent
+returns-then-spent c = λ n lt.
+    let row = c.args.row.now in
+    let rows = c.as_slice-rows.result.now in
+    let places = c.args.still.now.places.items in
+    let was = c.args.surplus.now in
+    let old = get_or c.args.told.now n false in
+    let at = c.loop-at.at in
+    let mine = c.as_slice-rows.ensures.value in
+    c.loop-at.invariant.told n lt
+    ∙ (elim (cases_lt n at) [
+      | inl low ↦
+          let fails = none_last row c.loop-at.surplus was rows places n at low c.loop-at.invariant.within (c.loop-at.invariant.spent c.if-spent.true) c.loop-at.invariant.left in
+          ap (λ b. old || (b && is_last row rows places was n)) (lt-leb at n low)
+          ∙ sym (ap (λ b. old || b) fails)
+      | inr high ↦ ap (λ b. old || (b && is_last row rows places was n)) (le-leb at n high)
+    ])
+    ∙ ap (λ r. old || is_last row r places was n) mine
 
 pub returns : goal.returns
 returns c = λ n lt.

@@ -15,6 +15,7 @@ invariant-loop-at l = record {
       → for_left l.surplus left ≡ for_left l.fn.surplus left - count_left l.rows (drop l.at l.still.places.items) left;
   told : (n : ℕ) → n < length l.still.places.items
       → slice_index_or l.told n false ≡ (slice_index_or l.fn.told n false || (nat_le l.at n && is_last l.row l.rows l.still.places.items l.fn.surplus n));
+  spent : l.spent ≡ true → (k : ℕ) → slice_index_or l.surplus k 0 ≡ 0;
 }
 
 abbrev pub decreases-loop-at : goal.decreases-loop-at

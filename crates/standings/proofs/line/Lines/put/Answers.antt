@@ -1,7 +1,9 @@
 use Rattle.std.proofs.Common.{◌≡◌, ℕ, List, [], ◌∷◌, ◌+◌, ◌≤◌, ◌++◌, ◌∙◌, ap, arith, drop, encode_utf8, length, subst, sym, take}
+use Rattle.std.specs.Fmt.{decimal}
 use Rattle.std.specs.List.{flat_map}
 use Rattle.tape_core.specs.Devices.{Gave}
 use Rattle.standings.specs.Found.{column_of, found_rows, heading, rows_reaching, unspaced}
+use Rattle.standings.specs.Lines.{front_spelled}
 use Rattle.standings.specs.Rows.{row_below}
 use Rattle.standings.specs.declared.line.Moment.{Moment}
 use Rattle.standings.proofs.RowLemmas.{reaching_one}
@@ -34,12 +36,13 @@ returns-clause-gave g c =
     let below = c.characters_below-row.ensures in
     let fits : place.before + m.len ≤ length (row_below rows place.above).characters = omega (arith, c.ends_within.ensures c.if-not-ends_within.false, ap length below) in
     let whole : rows_reaching (place.before + m.len) (drop place.above rows) ≡ (row_below rows place.above).characters = reaching_one rows place.above (place.before + m.len) fits in
-    let text : c.as_slice.result.now ≡ flat_map encode_utf8 (found_rows m.len rows place) =
-    c.as_slice.ensures.value ∙ c.know.ensures.text c.if-not-know.false ∙ ap (λ l. flat_map encode_utf8 (unspaced l)) (sym whole) in
+    let text : c.as_slice-2.result.now ≡ flat_map encode_utf8 (found_rows m.len rows place) =
+    c.as_slice-2.ensures.value ∙ c.know.ensures.text c.if-not-know.false ∙ ap (λ l. flat_map encode_utf8 (unspaced l)) (sym whole) in
+    let front : c.as_slice.result.now ≡ front_spelled m place.above = c.as_slice.ensures.value ∙ c.know.ensures.front c.if-not-know.false in
     subst (λ (t : List ℕ). Gave contents c.args.writer.now c.put_spelled.new.writer
     (heading c.args.sign m.index m.due (place.above + 1) (column_of rows place) ++ t ++ 10 ∷ [])) text
     (subst (λ n. Gave contents c.args.writer.now c.put_spelled.new.writer
-    (heading c.args.sign m.index m.due (place.above + 1) n ++ c.as_slice.result.now ++ 10 ∷ [])) c.column_below.ensures
-    (subst (λ (k : Moment). Gave contents c.args.writer.now c.put_spelled.new.writer
-    (heading c.args.sign k.index k.due (place.above + 1) c.column_below.result ++ c.as_slice.result.now ++ 10 ∷ [])) c.know.ensures.moment
+    (heading c.args.sign m.index m.due (place.above + 1) n ++ c.as_slice-2.result.now ++ 10 ∷ [])) c.column_below.ensures
+    (subst (λ (f : List ℕ). Gave contents c.args.writer.now c.put_spelled.new.writer
+    ((c.args.sign ∷ []) ++ f ++ decimal c.column_below.result ++ (32 ∷ []) ++ c.as_slice-2.result.now ++ 10 ∷ [])) front
     c.put_spelled.ensures.gave))
