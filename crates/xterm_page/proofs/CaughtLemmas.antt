@@ -1,17 +1,23 @@
--- Rows that become those of the sheet, one line after another.
-use Rattle.std.proofs.Common.{◌≡◌, ◌≢◌, ℕ, zero, suc, ◌+◌, ◌-◌, ◌<◌, ◌≤◌, ◌⊎◌, Bool, true, false, List, [], ◌∷◌, Some, filter, length, get_or, set, take, refl, ap, sym, ◌∙◌, arith, inl, inr}
-use Rattle.std.specs.Prelude.{◌||◌, ◌==◌}
-use Rattle.std.specs.List.{SwappedAt, range_with_len}
-use Rattle.std.proofs.lemmas.Bool.{cases_Bool, cases_eq, false≢true}
+-- Rows that become those of the sheet, one line or block after another.
+use Rattle.std.proofs.Common.{◌≡◌, ◌≢◌, ℕ, zero, suc, ◌+◌, ◌-◌, ◌<◌, ◌≤◌, Bool, true, false, List, [], ◌∷◌, ◌++◌, Some, cond, drop, filter, length, get_or, take, ap, sym, ◌∙◌, arith, inl, inr}
+use Rattle.std.specs.Prelude.{◌||◌}
+use Rattle.std.specs.List.{flat_map, range_with_len}
+use Rattle.std.proofs.lemmas.Bool.{cases_Bool, cases_eq, cases_lt}
+use Rattle.std.proofs.lemmas.List.{drop_more, take-append-drop}
+use Rattle.std.proofs.lemmas.List.Concat.{flat_map-append}
 use Rattle.sheet.specs.Cells.{Cell}
 use Rattle.sheet.specs.Grid.{row_at}
 use Rattle.screen_page.specs.Entries.{first_of}
-use Rattle.xterm_print.proofs.KeptLemmas.{row_read, row_set_other}
+use Rattle.xterm_rows.proofs.RangeLemmas.{range_first}
 use Rattle.xterm_page.specs.Entries.{line_of}
+use Rattle.xterm_page.specs.Parts.{InSheet, holds, is_renewed, renewed, told, told_lines}
+use Rattle.xterm_page.specs.declared.kept.Block.{Block}
+use Rattle.xterm_page.specs.declared.kept.Renewal.{Renewal}
+use Rattle.xterm_page.specs.declared.kept.Renewal.TheVariants.{Line, Moved}
+use Rattle.xterm_page.specs.declared.kept.Renewed.{Renewed}
 use Rattle.xterm_page.specs.Same.{same_row}
 use Rattle.xterm_page.proofs.EqualLemmas.{rows_equal}
-use Rattle.xterm_page.proofs.KeptLemmas.{row_written}
-use Rattle.xterm_page.proofs.RenewedLemmas.{holds, holds_taken, itself_is, other_is}
+use Rattle.xterm_page.proofs.RenewedLemmas.{before_one, before_range, behind_range, came_told, holds_append, holds_first, holds_rest, in_range, or_false, or_true, renewed_named, texts_taken}
 
 -- ---- the row that a line was
 
@@ -26,120 +32,88 @@ found p a (suc n) k is = elim (cases_Bool (p a)) [
       (rest.0, (omega (arith, rest.1.0), omega (arith, rest.1.1)))
 ]
 
-pub was_row : (lines : ℕ) (rows : List (List Cell)) (row : List Cell) (from : ℕ) → line_of lines rows row ≡ Some from
-    → (row_at rows from ≡ row) × ((1 ≤ from) × (from ≤ lines))
+was_row : (lines : ℕ) (rows : List (List Cell)) (row : List Cell) (from : ℕ) → line_of lines rows row ≡ Some from → row_at rows from ≡ row
 was_row lines rows row from is =
-    let there = found (λ line. same_row (row_at rows line) row) 1 lines from is in
-    (rows_equal (row_at rows from) row there.0, (there.1.0, omega (arith, there.1.1)))
-
--- ---- what is among others
-
-or_false : (b : Bool) → (b || false) ≡ b
-or_false true = refl
-or_false false = refl
-
-or_true : (b : Bool) → (b || true) ≡ true
-or_true true = refl
-or_true false = refl
-
-pub holds_read : (names : List ℕ) (at k : ℕ) → at < length names → get_or names at 0 ≡ k → holds k names ≡ true
-holds_read [] at k within is = absurd (omega (arith, within))
-holds_read (x ∷ names) zero k within is = ap (λ n. (n == k) || holds k names) is ∙ ap (λ b. b || holds k names) (itself_is k)
-holds_read (x ∷ names) (suc at) k within is = ap (λ b. (x == k) || b) (holds_read names at k (omega (arith, within)) is) ∙ or_true (x == k)
+    rows_equal (row_at rows from) row (found (λ line. same_row (row_at rows line) row) 1 lines from is).0
 
 -- ---- a line while rows become those of the sheet
 
--- of the first names each line has its row of after, and the others have those of before behind the last line that was
--- written, and where they keep it
-pub record Caught (names : List ℕ) (at last columns : ℕ) (before after rows : List (List Cell)) (k : ℕ) : Type 0 where
-  pub now : holds k (take at names) ≡ true → row_at rows k ≡ row_at after k
-  pub seen : holds k (take at names) ≡ true → k ≤ last
-  pub still : holds k (take at names) ≡ false → (holds k names ≡ false) ⊎ (last < k) → row_at rows k ≡ row_at before k
+-- a line is among those that the first renewals tell
+abbrev pub so_far : List Renewal → ℕ → ℕ → Bool
+so_far changed at k = holds k (flat_map told_lines (take at changed))
+
+-- a line that was gone over has its row of after, and each other one that of before
+pub record Caught (gone : Bool) (columns : ℕ) (before after rows : List (List Cell)) (k : ℕ) : Type 0 where
+  pub row : row_at rows k ≡ cond gone (row_at after k) (row_at before k)
   pub wide : length (row_at rows k) ≡ columns
 
-pub caught_none : (names : List ℕ) (columns : ℕ) (before after : List (List Cell)) (k : ℕ) → length (row_at before k) ≡ columns
-    → Caught names 0 0 columns before after before k
-caught_none names columns before after k wide = record {
-  now = λ t. absurd (false≢true t);
-  seen = λ t. absurd (false≢true t);
-  still = λ _ _. refl;
-  wide = wide;
-}
+module _ (changed : List Renewal) (at columns lines : ℕ) (d : Renewal) (origins : List ℕ) (before after rows others : List (List Cell)) (within : at < length changed)
+    (kept : (k : ℕ) → 1 ≤ k → k ≤ lines → Caught (so_far changed at k) columns before after rows k) where
+  abbrev one : Renewal
+  one = get_or changed at d
 
-module _ (names : List ℕ) (at last line k columns : ℕ) (before after rows : List (List Cell)) (within : at < length names) (named : line ≡ get_or names at 0) where
-  hit : line ≡ k → holds k (take (at + 1) names) ≡ true
-  hit e =
-      holds_taken k at names line within named ∙ ap (λ n. holds k (take at names) || (line == n)) (sym e)
-      ∙ ap (λ b. holds k (take at names) || b) (itself_is line) ∙ or_true (holds k (take at names))
+  abbrev Next : ℕ → Type 0
+  Next k = Caught (so_far changed (at + 1) k) columns before after others k
 
-  miss : line ≢ k → holds k (take (at + 1) names) ≡ holds k (take at names)
-  miss ne =
-      holds_taken k at names line within named ∙ ap (λ b. holds k (take at names) || b) (other_is line k ne) ∙ or_false (holds k (take at names))
+  next_far : (k : ℕ) → so_far changed (at + 1) k ≡ (so_far changed at k || holds k (told_lines one))
+  next_far k = ap (holds k) (texts_taken told_lines changed at d within) ∙ holds_append k (flat_map told_lines (take at changed)) (told_lines one)
 
-  -- the line itself has its row now
-  caught_itself : (to : ℕ) (others : List (List Cell)) → line ≡ k → line ≤ to → row_at others line ≡ row_at after line → length (row_at others line) ≡ columns
-      → Caught names (at + 1) to columns before after others k
-  caught_itself to others e low is long = record {
-    now = λ _. ap (row_at others) (sym e) ∙ is ∙ ap (row_at after) e;
-    seen = λ _. omega (arith, e, low);
-    still = λ f. absurd (false≢true (sym f ∙ hit e));
-    wide = ap (λ n. length (row_at others n)) (sym e) ∙ long;
-  }
+  itself : (k : ℕ) → holds k (told_lines one) ≡ true → row_at others k ≡ row_at after k → length (row_at others k) ≡ columns → Next k
+  itself k here is long =
+      let hit = next_far k ∙ ap (λ b. so_far changed at k || b) here ∙ or_true (so_far changed at k) in
+      record { row = is ∙ sym (ap (λ b. cond b (row_at after k) (row_at before k)) hit); wide = long }
 
-  -- another line keeps what it has
-  caught_other : (to : ℕ) (others : List (List Cell)) → line ≢ k → last ≤ to → row_at others k ≡ row_at rows k
-      → Caught names at last columns before after rows k → Caught names (at + 1) to columns before after others k
-  caught_other to others ne low same told = record {
-    now = λ t. same ∙ told.now (sym (miss ne) ∙ t);
-    seen = λ t. omega (arith, low, told.seen (sym (miss ne) ∙ t));
-    still = λ f so. same ∙ told.still (sym (miss ne) ∙ f) (elim so [ inl n ↦ inl n | inr b ↦ inr (omega (arith, low, b)) ]);
-    wide = ap length same ∙ told.wide;
-  }
+  other : (k : ℕ) → 1 ≤ k → k ≤ lines → holds k (told_lines one) ≡ false → row_at others k ≡ row_at rows k → Next k
+  other k low high none same =
+      let was = kept k low high in
+      let miss = next_far k ∙ ap (λ b. so_far changed at k || b) none ∙ or_false (so_far changed at k) in
+      record { row = same ∙ was.row ∙ sym (ap (λ b. cond b (row_at after k) (row_at before k)) miss); wide = ap length same ∙ was.wide }
 
-  -- its row was written
-  pub caught_written : (to : ℕ) (row : List Cell) → 1 ≤ line → line ≤ length rows → 1 ≤ k → line ≤ to → last ≤ to
-      → row ≡ row_at after line → length row ≡ columns → Caught names at last columns before after rows k
-      → Caught names (at + 1) to columns before after (set rows (line - 1) row) k
-  caught_written to row low high here line_low last_low is long told = elim (cases_eq line k) [
-    | inl e ↦
-        let now = row_written rows line row low high in
-        caught_itself to (set rows (line - 1) row) e line_low (now ∙ is) (ap length now ∙ long)
-    | inr ne ↦ caught_other to (set rows (line - 1) row) ne last_low (row_set_other rows line k row low here (λ same. ne (sym same))) told
+  -- the row of a line was copied
+  pub line_caught : (line : ℕ) (renewed : Renewed) → one ≡ Line line renewed → row_at others line ≡ row_at after line → length (row_at others line) ≡ columns
+      → ((k : ℕ) → 1 ≤ k → k ≢ line → row_at others k ≡ row_at rows k) → (k : ℕ) → 1 ≤ k → k ≤ lines → Next k
+  line_caught line renewed is copied long stay k low high = elim (cases_eq line k) [
+    | inl e ↦ itself k (ap (λ x. holds k (told_lines x)) is ∙ holds_first line k [] e)
+        (ap (row_at others) (sym e) ∙ copied ∙ ap (row_at after) e) (ap (λ m. length (row_at others m)) (sym e) ∙ long)
+    | inr ne ↦ other k low high (ap (λ x. holds k (told_lines x)) is ∙ holds_rest line k [] ne) (stay k low (λ e. ne (sym e)))
   ]
 
-  -- it changed places with another one, which holds what was there
-  pub caught_moved : (from : ℕ) (others : List (List Cell)) → 1 ≤ line → line ≤ length rows → 1 ≤ k → k ≤ length rows → from ≤ length rows → length others ≡ length rows
-      → line < from → last < from → holds from names ≡ true → row_at before from ≡ row_at after line → SwappedAt rows others (line - 1) (from - 1)
-      → Caught names at last columns before after rows line → Caught names at last columns before after rows from
-      → Caught names at last columns before after rows k → Caught names (at + 1) from columns before after others k
-  caught_moved from others low high here below from_high long line_below behind differs was swapped at_line at_from told =
-      let first : row_at others line ≡ row_at rows from =
-      row_read others line [] low (omega (arith, high, long)) ∙ swapped.0 [] ∙ sym (row_read rows from [] (omega (arith, line_below)) from_high) in
-      let unseen : holds from (take at names) ≡ false = elim (cases_Bool (holds from (take at names))) [
-        | inl t ↦ absurd (omega (arith, at_from.seen t, behind))
-        | inr f ↦ f
-      ] in
-      elim (cases_eq line k) [
-        | inl e ↦ caught_itself from others e (omega (arith, line_below)) (first ∙ at_from.still unseen (inr behind) ∙ was) (ap length first ∙ at_from.wide)
-        | inr ne ↦ elim (cases_eq from k) [
-          | inl e ↦
-              let second : row_at others k ≡ row_at rows line =
-              ap (row_at others) (sym e) ∙ row_read others from [] (omega (arith, line_below)) (omega (arith, from_high, long)) ∙ swapped.1 [] ∙ sym (row_read rows line [] low high) in
-              let missed : holds k (take (at + 1) names) ≡ false = miss ne ∙ ap (λ n. holds n (take at names)) (sym e) ∙ unseen in
-              record {
-                now = λ t. absurd (false≢true (sym missed ∙ t));
-                seen = λ t. absurd (false≢true (sym missed ∙ t));
-                still = λ _ so. elim so [
-                  | inl n ↦ absurd (false≢true (sym n ∙ ap (λ m. holds m names) (sym e) ∙ differs))
-                  | inr b ↦ absurd (omega (arith, b, e))
-                ];
-                wide = ap length second ∙ at_line.wide;
-              }
-          | inr apart ↦
-              let line_apart : k - 1 ≢ line - 1 = λ same. ne (omega (arith, same, low, here)) in
-              let from_apart : k - 1 ≢ from - 1 = λ same. apart (omega (arith, same, line_below, here)) in
-              let same : row_at others k ≡ row_at rows k =
-              row_read others k [] here (omega (arith, below, long)) ∙ swapped.2 (k - 1) [] line_apart from_apart ∙ sym (row_read rows k [] here below) in
-              caught_other from others ne (omega (arith, behind)) same told
-        ]
+  module _ (block : Block) (is : one ≡ Moved block) (inside : InSheet lines block) (tells : flat_map told changed ≡ renewed origins lines before after) where
+    abbrev count : ℕ
+    count = block.end - block.from
+
+    -- no line from its first one on was gone over
+    not_yet : (k : ℕ) → block.from ≤ k → so_far changed at k ≡ false
+    not_yet k low = elim (cases_Bool (so_far changed at k)) [
+      | inl t ↦
+          let p : ℕ → Bool = λ line. is_renewed origins (row_at before line) (row_at after line) line in
+          let first = flat_map told_lines (take at changed) in
+          let rest = flat_map told_lines (drop (at + 1) changed) in
+          let more = range_with_len (block.from + 1) (count - 1) in
+          let all : filter p (range_with_len 1 lines) ≡ first ++ block.from ∷ (more ++ rest) =
+          sym (renewed_named origins lines before after changed tells) ∙ ap (flat_map told_lines) (sym (take-append-drop at changed))
+          ∙ flat_map-append told_lines (take at changed) (drop at changed)
+          ∙ ap (λ l. first ++ flat_map told_lines l) (drop_more changed at d within)
+          ∙ ap (λ x. first ++ (told_lines x ++ rest)) is
+          ∙ ap (λ l. first ++ (l ++ rest)) (range_first block.from count (count - 1) (omega (arith, inside.some))) in
+          absurd (omega (arith, low, before_one p lines 1 block.from k first (more ++ rest) all t))
+      | inr f ↦ f
+    ]
+
+    -- the rows of a block moved up
+    pub block_caught : ((k : ℕ) → 1 ≤ k → k < block.from → row_at others k ≡ row_at rows k) → ((k : ℕ) → block.end ≤ k → row_at others k ≡ row_at rows k)
+        → ((k : ℕ) → block.from ≤ k → k < block.end → row_at others k ≡ row_at rows (k + block.shift)) → (k : ℕ) → 1 ≤ k → k ≤ lines → Next k
+    block_caught above behind moved k low high = elim (cases_lt k block.from) [
+      | inl first ↦ other k low high (ap (λ x. holds k (told_lines x)) is ∙ before_range k block.from count first) (above k low first)
+      | inr from ↦ elim (cases_lt k block.end) [
+        | inl below ↦
+            let source = k + block.shift in
+            let was = kept source (omega (arith, low)) (omega (arith, below, inside.high)) in
+            let there = moved k from below in
+            let same = was_row lines before (row_at after k) source (came_told origins lines before after changed at d block k tells within is from below) in
+            itself k (ap (λ x. holds k (told_lines x)) is ∙ in_range k block.from count from (omega (arith, from, below)))
+            (there ∙ was.row ∙ ap (λ b. cond b (row_at after source) (row_at before source)) (not_yet source (omega (arith, from))) ∙ same)
+            (ap length there ∙ was.wide)
+        | inr past ↦ other k low high (ap (λ x. holds k (told_lines x)) is ∙ behind_range k block.from count (omega (arith, past, inside.some))) (behind k past)
       ]
+    ]

@@ -67,13 +67,22 @@ lines_by law terminal size bytes shows = ap (λ s. s.picture.lines) (sym shows.c
 -- ---- lines that differ
 
 -- where the others are told, a line that isn't renewed has the row of before
-pub stays : (origins : List ℕ) (line : ℕ) (before after : List (List Cell)) → MarksTell before origins after
+stays : (origins : List ℕ) (line : ℕ) (before after : List (List Cell)) → MarksTell before origins after
     → is_renewed origins (row_at before line) (row_at after line) line ≡ false → row_at before line ≡ row_at after line
 stays origins line before after told same = elim (cases_Bool (is_touched origins line)) [
   | inl t ↦ rows_equal (row_at before line) (row_at after line)
       (not-false _ (sym (ap (λ b. b && not (same_row (row_at before line) (row_at after line))) t) ∙ same))
   | inr f ↦ sym (told.stay line f)
 ]
+
+-- where the others are told, a line has its row of after, renewed or not
+pub told_or_stays : (origins : List ℕ) (line : ℕ) (before after : List (List Cell)) → MarksTell before origins after
+    → cond (is_renewed origins (row_at before line) (row_at after line) line) (row_at after line) (row_at before line) ≡ row_at after line
+told_or_stays origins line before after told =
+    elim (cases_Bool (is_renewed origins (row_at before line) (row_at after line) line)) [
+      | inl t ↦ ap (λ b. cond b (row_at after line) (row_at before line)) t
+      | inr f ↦ ap (λ b. cond b (row_at after line) (row_at before line)) f ∙ stays origins line before after told f
+    ]
 
 -- a line that was a row, where an earlier one may have been it
 abbrev pub or_line : Option ℕ → ℕ → ℕ

@@ -10,27 +10,27 @@ use Rattle.xterm_page.specs.Same.{row_number, same_row}
 use Rattle.xterm_page.proofs.EqualLemmas.{rows_equal}
 
 -- the number of one row more is marked
-pub marked_more : (rows : List (List Cell)) (at number : ℕ) (marks : List Bool) → number ≡ row_number (row_at rows (at + 1)) → length marks ≡ 256
-    → AreMarked rows at marks → AreMarked rows (at + 1) (set marks (number % 256) true)
+pub marked_more : (rows : List (List Cell)) (at number : ℕ) (marks : List Bool) → number ≡ row_number (row_at rows (at + 1)) → length marks ≡ 2048
+    → AreMarked rows at marks → AreMarked rows (at + 1) (set marks (number % 2048) true)
 marked_more rows at number marks is long told line low high =
-    let n = row_number (row_at rows line) % 256 in
-    let within : number % 256 < length marks = omega (arith, long) in
-    elim (cases_eq n (number % 256)) [
-      | inl e ↦ ap (λ k. get_or (set marks (number % 256) true) k false) e ∙ get_or-set_same marks (number % 256) true false within
+    let n = row_number (row_at rows line) % 2048 in
+    let within : number % 2048 < length marks = omega (arith, long) in
+    elim (cases_eq n (number % 2048)) [
+      | inl e ↦ ap (λ k. get_or (set marks (number % 2048) true) k false) e ∙ get_or-set_same marks (number % 2048) true false within
       | inr apart ↦
-          let other : line ≢ at + 1 = λ e. apart (ap (λ k. row_number (row_at rows k) % 256) e ∙ ap (λ k. k % 256) (sym is)) in
-          get_or-set_other marks (number % 256) n true false apart ∙ told line low (omega arith)
+          let other : line ≢ at + 1 = λ e. apart (ap (λ k. row_number (row_at rows k) % 2048) e ∙ ap (λ k. k % 2048) (sym is)) in
+          get_or-set_other marks (number % 2048) n true false apart ∙ told line low (omega arith)
     ]
 
 -- where a number has no mark, none of the first rows is the same
 pub first_by_mark : (rows : List (List Cell)) (cells : List Cell) (place marked number : ℕ) (marks : List Bool) → place < length rows
     → same_row (row_at rows (place + 1)) cells ≡ true → number ≡ row_number cells → AreMarked rows marked marks → place ≤ marked
-    → get_or marks (number % 256) false ≡ false → line_of (length rows) rows cells ≡ Some (place + 1)
+    → get_or marks (number % 2048) false ≡ false → line_of (length rows) rows cells ≡ Some (place + 1)
 first_by_mark rows cells place marked number marks within same is told few none =
     let p : ℕ → Bool = λ line. same_row (row_at rows line) cells in
     first_found p 1 (length rows) (place + 1) (λ line low below. elim (cases_Bool (p line)) [
       | inl t ↦
           let n : row_number (row_at rows line) ≡ number = ap row_number (rows_equal (row_at rows line) cells t) ∙ sym is in
-          absurd (false≢true (sym none ∙ ap (λ k. get_or marks (k % 256) false) (sym n) ∙ told line low (omega arith)))
+          absurd (false≢true (sym none ∙ ap (λ k. get_or marks (k % 2048) false) (sym n) ∙ told line low (omega arith)))
       | inr f ↦ f
     ]) (omega arith) (omega arith) same

@@ -1,5 +1,5 @@
 -- A page is its parts, and an entry the lines that it names.
-use Rattle.std.proofs.Common.{◌≡◌, ℕ, Bool, not, List, [], ◌∷◌, ◌++◌, filter, map, refl, ap, ap₂, sym, ◌∙◌, append_assoc, if◌then◌else◌, inl, inr}
+use Rattle.std.proofs.Common.{◌≡◌, ◌+◌, ◌-◌, ℕ, Bool, Some, not, List, [], ◌∷◌, ◌++◌, filter, map, refl, ap, ap₂, sym, ◌∙◌, append_assoc, if◌then◌else◌, inl, inr}
 use Rattle.std.specs.Prelude.{◌&&◌}
 use Rattle.std.specs.List.{flat_map, range_with_len}
 use Rattle.std.proofs.lemmas.Bool.{cases_Bool}
@@ -13,11 +13,12 @@ use Rattle.screen_page.specs.Page.{front, tail}
 use Rattle.xterm_term.specs.declared.measure.Size.{Size}
 use Rattle.xterm_term.specs.Console.{Console}
 use Rattle.xterm_page.specs.Entries.{change_of, changed_lines, changes, entry_at, entry_of, first_entry, is_changed}
-use Rattle.xterm_page.specs.EntryText.{data_text, entry_front, entry_text, named_text, next_text, size_text}
+use Rattle.xterm_page.specs.EntryText.{change_text, data_text, entry_front, entry_text, named_text, next_text, size_text}
 use Rattle.xterm_page.specs.Page.{page_text}
-use Rattle.xterm_page.specs.Parts.{changed_text, chunk_text, closing, first_text, front_text, is_renewed, line_text, lines_text, opening, renewed, renewed_text}
+use Rattle.xterm_page.specs.Parts.{changed_text, chunk_text, closing, come_text, come_told, first_text, front_text, is_renewed, line_text, lines_text, opening, renewed, renewed_text, told}
+use Rattle.xterm_page.specs.declared.kept.Renewal.{Renewal}
 use Rattle.xterm_page.specs.Same.{same_row}
-use Rattle.xterm_page.proofs.RenewedLemmas.{line_told}
+use Rattle.xterm_page.proofs.RenewedLemmas.{line_told, texts_joined}
 use Rattle.xterm_page.proofs.SameLemmas.{row_itself}
 
 -- ---- the lines that an entry names
@@ -55,13 +56,25 @@ lines_told origins lines before after told =
     (range_with_len 1 lines)
 
 -- the lines that are told as changed are these
-pub lines_renewed : (origins : List ℕ) (lines : ℕ) (before after : List (List Cell))
+lines_renewed : (origins : List ℕ) (lines : ℕ) (before after : List (List Cell))
     → flat_map (renewed_text after) (renewed origins lines before after) ≡ lines_text origins lines before after
 unfolding lines_text line_text changed_text
 lines_renewed origins lines before after =
     let p : ℕ → Bool = λ line. is_renewed origins (row_at before line) (row_at after line) line in
     flat_map-map (renewed_text after) (line_told lines before after) (filter p (range_with_len 1 lines))
     ∙ passing (λ line. renewed_text after (line_told lines before after line)) p (range_with_len 1 lines)
+
+-- so are those of which renewals tell
+pub renewals_written : (origins : List ℕ) (lines : ℕ) (before after : List (List Cell)) (changed : List Renewal) → flat_map told changed ≡ renewed origins lines before after
+    → flat_map (λ one. flat_map (renewed_text after) (told one)) changed ≡ lines_text origins lines before after
+renewals_written origins lines before after changed is =
+    sym (texts_joined (renewed_text after) told changed) ∙ ap (flat_map (renewed_text after)) is ∙ lines_renewed origins lines before after
+
+-- what is written of lines that came up
+pub come_written : (rows : List (List Cell)) (from end shift : ℕ) → flat_map (renewed_text rows) (come_told from end shift) ≡ come_text from end shift
+unfolding named_text change_text
+come_written rows from end shift =
+    flat_map-map (renewed_text rows) (λ line. (line, Some (line + shift))) (range_with_len from (end - from))
 
 -- an entry: what opens it, its front, its lines, and what closes it
 pub entry_is : (origins : List ℕ) (due : ℕ) (before : List (List Cell)) (after : Console) → MarksTell before origins after.picture.rows

@@ -1,13 +1,18 @@
 -- Private: the parts of a page in the order in which they are written.
-use Rattle.std.specs.Prelude.{◌≡◌, ℕ, ◌%◌, ◌<◌, ◌≤◌, Bool, true, false, not, All, IfSome, List, [], ◌∷◌, ◌++◌, ◌&&◌, Option, Some, None, filter, length, map, if◌then◌else◌, slice_index_or}
+use Rattle.std.specs.Prelude.{◌≡◌, ℕ, ◌%◌, ◌/◌, ◌<◌, ◌≤◌, Bool, true, false, not, All, IfSome, List, [], ◌∷◌, ◌++◌, ◌&&◌, ◌||◌, ◌==◌, ◌+◌, ◌-◌, Option, Some, None, filter, length, map, if◌then◌else◌, slice_index_or}
 use Rattle.std.specs.List.{flat_map, range_with_len}
 use Rattle.sheet.specs.Cells.{Cell}
 use Rattle.sheet.specs.Grid.{is_touched, row_at}
+use Rattle.screen_page.specs.EntryText.{comma_number}
 use Rattle.screen_page.specs.Page.{front, tail}
 use Rattle.xterm_term.specs.declared.measure.Size.{Size}
 use Rattle.xterm_term.specs.Console.{Console}
 use Rattle.xterm_page.specs.Entries.{change_by, change_of, console_by, entry_by, entry_of, first_entry, line_of}
+use Rattle.xterm_page.specs.declared.kept.Block.{Block}
+use Rattle.xterm_page.specs.declared.kept.Renewal.{Renewal}
+use Rattle.xterm_page.specs.declared.kept.Renewal.TheVariants.{Line, Moved}
 use Rattle.xterm_page.specs.declared.kept.Renewed.{Renewed}
+use Rattle.xterm_page.specs.declared.moved.Digits.{Digits}
 use Rattle.xterm_page.specs.EntryText.{entry_front, named_text, next_text, size_text}
 use Rattle.xterm_page.specs.Same.{row_number, same_row}
 
@@ -39,9 +44,28 @@ abbrev pub told_of : Option Renewed → Option (Option ℕ)
 told_of (Some renewed) = Some renewed.was
 told_of None = None
 
--- .. and of a line
-abbrev pub told : ℕ × Renewed → ℕ × Option ℕ
-told (line, renewed) = (line, renewed.was)
+-- .. of lines from one to before another that came up by as many ..
+abbrev pub come_told : ℕ → ℕ → ℕ → List (ℕ × Option ℕ)
+come_told from end shift = map (λ line. (line, Some (line + shift))) (range_with_len from (end - from))
+
+-- .. and of a line, or of such lines
+abbrev pub told : Renewal → List (ℕ × Option ℕ)
+told (Line line renewed) = (line, renewed.was) ∷ []
+told (Moved block) = come_told block.from block.end block.shift
+
+-- which lines these are
+abbrev pub told_lines : Renewal → List ℕ
+told_lines (Line line renewed) = line ∷ []
+told_lines (Moved block) = range_with_len block.from (block.end - block.from)
+
+-- no line, of which nothing is known
+abbrev pub no_line : Renewal
+no_line = Line 0 (record { number = None; was = None })
+
+-- a number is among others
+abbrev pub holds : ℕ → List ℕ → Bool
+holds k [] = false
+holds k (x ∷ xs) = (x == k) || holds k xs
 
 -- the lines that are told as changed, up to one
 abbrev pub renewed_lines : ℕ → List ℕ → List (List Cell) → List (List Cell) → List ℕ
@@ -56,33 +80,51 @@ renewed_to to origins lines before after =
 abbrev pub renewed : List ℕ → ℕ → List (List Cell) → List (List Cell) → List (ℕ × Option ℕ)
 renewed origins lines before after = renewed_to lines origins lines before after
 
+-- lines from one to before another differ, and the first line that was the row of each is so many lines further down
+abbrev pub CameUp : List ℕ → ℕ → List (List Cell) → List (List Cell) → ℕ → ℕ → ℕ → Type 0
+CameUp origins lines before after from end shift = (line : ℕ) → from ≤ line → line < end
+    → (is_renewed origins (row_at before line) (row_at after line) line ≡ true)
+    × (line_of lines before (row_at after line) ≡ Some (line + shift))
+
+-- lines that came up are on a sheet of so many, with those from which they came
+pub record InSheet (lines : ℕ) (block : Block) : Type 0 where
+  pub low : 1 ≤ block.from
+  pub some : block.from < block.end
+  pub up : 1 ≤ block.shift
+  pub high : block.end + block.shift ≤ lines + 1
+
 -- these are lines of so many
-abbrev pub AreLines : ℕ → List (ℕ × Renewed) → Type 0
-AreLines lines changed = All (λ one. (1 ≤ one.0) × (one.0 ≤ lines)) changed
+abbrev pub IsWithin : ℕ → Renewal → Type 0
+IsWithin lines (Line line renewed) = (1 ≤ line) × (line ≤ lines)
+IsWithin lines (Moved block) = InSheet lines block
+
+abbrev pub AreLines : ℕ → List Renewal → Type 0
+AreLines lines changed = All (IsWithin lines) changed
 
 -- where the number of a line's row is known, it is that
-abbrev pub AreNumbered : List (List Cell) → List (ℕ × Renewed) → Type 0
-AreNumbered rows changed = All (λ one. IfSome one.1.number (λ number. number ≡ row_number (row_at rows one.0))) changed
+abbrev pub IsNumbered : List (List Cell) → Renewal → Type 0
+IsNumbered rows (Line line renewed) = IfSome renewed.number (λ number. number ≡ row_number (row_at rows line))
+IsNumbered rows (Moved block) = Unit {0}
+
+abbrev pub AreNumbered : List (List Cell) → List Renewal → Type 0
+AreNumbered rows changed = All (IsNumbered rows) changed
 
 -- the number of each of the first rows has a mark
 abbrev pub AreMarked : List (List Cell) → ℕ → List Bool → Type 0
 AreMarked rows count marks =
-    (line : ℕ) → 1 ≤ line → line ≤ count → slice_index_or marks (row_number (row_at rows line) % 256) false ≡ true
-
--- no line, of which nothing is known
-abbrev pub no_line : ℕ × Renewed
-no_line = (0, record { number = None; was = None })
-
--- a line that differs was another one, below it and behind the last that was written, which differs too
-pub record MovedUp (changed : List (ℕ × Renewed)) (at last from : ℕ) : Type 0 where
-  pub was : (slice_index_or changed at no_line).1.was ≡ Some from
-  pub below : (slice_index_or changed at no_line).0 < from
-  pub behind : last < from
-  pub differs : (to : ℕ) × (to < length changed) × ((slice_index_or changed to no_line).0 ≡ from)
+    (line : ℕ) → 1 ≤ line → line ≤ count → slice_index_or marks (row_number (row_at rows line) % 2048) false ≡ true
 
 -- what is written of a line by what is told of it
 abbrev pub renewed_text : List (List Cell) → ℕ × Option ℕ → List ℕ
 renewed_text after (line, was) = named_text (line, change_by was (row_at after line))
+
+-- what is written of lines from one to before another that came up by so many
+abbrev pub come_text : ℕ → ℕ → ℕ → List ℕ
+come_text from end shift = flat_map (λ line. comma_number line ++ comma_number (line + shift)) (range_with_len from (end - from))
+
+-- the two digits of a number below 100, as they are written
+abbrev pub AreDigits : ℕ → Digits → Type 0
+AreDigits number digits = (digits.tens ≡ 48 + number / 10) × (digits.ones ≡ 48 + number % 10)
 
 -- what is written of a line
 unfoldable pub line_text : List ℕ → ℕ → List (List Cell) → List Cell → ℕ → List ℕ

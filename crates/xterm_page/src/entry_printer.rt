@@ -1,6 +1,6 @@
 //! The entry of a chunk.
 
-ghost use Rattle.std.specs.Prelude.{◌≡◌, List, map};
+ghost use Rattle.std.specs.Prelude.{◌≡◌, List};
 ghost use Rattle.std.specs.List.{flat_map};
 ghost use Rattle.sheet.specs.Cells.{Cell};
 ghost use Rattle.tape_core.specs.Devices.{Gave};
@@ -10,7 +10,9 @@ ghost use Rattle.held.specs.Held.{Wrote};
 ghost use Rattle.xterm_page.specs.Parts.{AreLines, front_text, renewed, renewed_text, told};
 ghost use Rattle.xterm_term.specs.Seen.{Tells};
 
-use crate::kept::{KeptRow, Renewed, catch_up, changed_rows, kept_rows};
+use crate::caught::catch_up;
+use crate::kept::{KeptRow, Renewal, changed_rows, kept_rows};
+use crate::moved::put_block;
 use crate::numbers::put_comma_number;
 use crate::rows::put_changed;
 use arrayvec::ArrayVec;
@@ -73,15 +75,10 @@ impl Visitor<Terminal> for EntryPrinter {
 }
 
 /// Writes an entry behind another one, whatever stood before it, by the lines that have changed.
-fn put_entry<W: Write>(
-    due: u64,
-    changed: &[(u16, Renewed)],
-    after: &Terminal,
-    writer: &mut Watched<W>,
-)
+fn put_entry<W: Write>(due: u64, changed: &[Renewal], after: &Terminal, writer: &mut Watched<W>)
     requires { AreLines after.now.console.picture.lines changed.now }
     ensures { (before : List (List Cell)) → Tells before after.now
-        → map told changed.now ≡ renewed after.now.origins after.now.console.picture.lines before
+        → flat_map told changed.now ≡ renewed after.now.origins after.now.console.picture.lines before
         after.now.console.picture.rows → Gave W.contents writer.old writer.new
         (next_text (entry_of due before after.now.console)) }
 {
@@ -115,24 +112,22 @@ fn put_front<W: Write>(
 
 /// Writes what the lines are that a chunk changes.
 fn put_lines<W: Write>(
-    changed: &[(u16, Renewed)],
+    changed: &[Renewal],
     screen: &Screen,
     held: &mut ArrayVec<u8, HELD>,
     writer: &mut Watched<W>,
 )
     requires { AreLines screen.now.picture.lines changed.now }
     ensures { Wrote W.contents writer.old held.old.items writer.new held.new.items
-        (flat_map (λ one. renewed_text screen.now.picture.rows (told one)) changed.now) }
+        (flat_map (λ one. flat_map (renewed_text screen.now.picture.rows) (told one)) changed.now) }
 {
     for at in 0..changed.len() {
-        let (line, renewed) = changed[at];
-        put_changed(
-            line as usize,
-            renewed.was,
-            screen.row(line),
-            screen.used(line),
-            held,
-            writer,
-        );
+        match changed[at] {
+            Renewal::Line(line, renewed) => {
+                let (cells, used) = (screen.row(line), screen.used(line));
+                put_changed(line as usize, renewed.was, cells, used, held, writer);
+            }
+            Renewal::Moved(block) => put_block(block, held, writer),
+        }
     }
 }

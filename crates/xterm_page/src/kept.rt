@@ -1,9 +1,11 @@
 //! Rows that are kept of a sheet while the next chunk is played.
 
-ghost use Rattle.std.specs.Prelude.{◌≡◌, ◌+◌, ◌-◌, ◌%◌, ◌<◌, ◌≤◌, IfOk, IfSome, None, Some, drop, if◌then◌else◌, length, map, true};
+ghost use Rattle.std.specs.Prelude.{◌≡◌, ◌+◌, ◌-◌, ◌%◌, ◌<◌, ◌≤◌, ◌∷◌, ◌++◌, IfOk, IfSome, List, None, OnOk, Some, drop, false, if◌then◌else◌, length, true};
+ghost use Rattle.std.specs.List.{flat_map};
+ghost use Rattle.sheet.specs.Cells.{Cell};
 ghost use Rattle.sheet.specs.Grid.{AreMarked as MarksTell, AreTold, IsUsed, is_touched, row_at};
 ghost use Rattle.xterm_page.specs.Entries.{line_of};
-ghost use Rattle.xterm_page.specs.Parts.{AreLines, AreMarked, AreNumbered, AreWide, KeptAll, MovedUp, is_renewed, renewed, renewed_to, told, told_of};
+ghost use Rattle.xterm_page.specs.Parts.{AreLines, AreMarked, AreNumbered, CameUp, KeptAll, come_told, is_renewed, renewed, told, told_of};
 ghost use Rattle.xterm_page.specs.Same.{row_number, same_row};
 
 use crate::same::row_number;
@@ -95,8 +97,15 @@ impl KeptRow {
         self.number == number && self.is_same(cells, used)
     }
 
+    /// Becomes a copy of another row, if it has as many cells.
+    pub(crate) fn copy_row(&mut self, other: &KeptRow)
+        ensures { length self.old ≡ length other.now → self.new ≡ other.now }
+    {
+        self.copy_from(other.cells.as_slice(), other.used, other.number);
+    }
+
     /// Becomes a copy of these cells, whose number is known, if they are as many as its own.
-    fn copy_from(&mut self, cells: &[Cell], used: usize, number: u64)
+    pub(crate) fn copy_from(&mut self, cells: &[Cell], used: usize, number: u64)
         requires number { number ≡ row_number cells.now }
         requires used { IsUsed cells.now used }
         ensures { length self.old ≡ length cells.now → self.new ≡ cells.now }
@@ -127,22 +136,24 @@ pub(crate) fn kept_rows(alloc: Global, screen: &Screen) -> Result<Vec<KeptRow>, 
 /// number, unless the sheet alone tells which row it was.
 #[derive(Clone, Copy)]
 pub(crate) struct Renewed {
-    number: Option<u64>,
+    pub(crate) number: Option<u64>,
     pub(crate) was: Option<usize>,
 }
 
-impl Renewed {
-    /// The number of the row, which these cells are.
-    fn number_of(self, cells: &[Cell], used: usize) -> u64
-        requires used { IsUsed cells.now used }
-        requires number { IfSome self.number (λ number. number ≡ row_number cells.now) }
-        ensures { result ≡ row_number cells.now }
-    {
-        match self.number {
-            Some(number) => number,
-            None => row_number(cells, used),
-        }
-    }
+/// Lines from one to before another that came up by as many lines. Each differs from the row that was kept of it, and the
+/// one from which it came is the first line that was its row.
+#[derive(Clone, Copy)]
+pub(crate) struct Block {
+    pub(crate) from: u16,
+    pub(crate) end: u16,
+    pub(crate) shift: u16,
+}
+
+/// A line that differs from the row that was kept of it, with what is known of its row, or lines that came up together.
+#[derive(Clone, Copy)]
+pub(crate) enum Renewal {
+    Line(u16, Renewed),
+    Moved(Block),
 }
 
 /// The first of so many lines that was a row, by its number.
@@ -167,12 +178,12 @@ fn line_of(
 }
 
 /// How many marks there are for the numbers of rows.
-const MARKS: usize = 256;
+const MARKS: usize = 2048;
 
 /// The mark of a number.
 fn mark_of(number: u64) -> usize
-    ensures value { result ≡ number % 256 }
-    ensures below { result < 256 }
+    ensures value { result ≡ number % 2048 }
+    ensures below { result < 2048 }
 {
     (number % MARKS as u64) as usize
 }
@@ -193,8 +204,8 @@ fn mark_to(rows: &[KeptRow], marked: usize, place: usize, marks: &mut [bool; MAR
 }
 
 /// What is known of a line that was touched if it differs from the row that was kept of it, by a guess behind how many
-/// lines its row was. The numbers of the first rows are marked, and where some row is another one the sheet tells which
-/// rows moved.
+/// lines its row was. The numbers of the first rows are marked, and it may be known that some row is another one: then the
+/// sheet tells which rows moved.
 fn renewed_line(
     rows: &[KeptRow],
     screen: &Screen,
@@ -209,15 +220,18 @@ fn renewed_line(
     requires touched { is_touched screen.now.origins line ≡ true }
     requires rows { length rows.now ≡ screen.now.picture.lines }
     requires marked { AreMarked rows.now marked marks.now }
-    ensures told { (some ≡ true → AreTold rows.now screen.now.origins screen.now.picture.rows)
-        → told_of result ≡ (if is_renewed screen.now.origins (row_at rows.now line)
+    ensures told { MarksTell rows.now screen.now.origins screen.now.picture.rows
+        → (some ≡ true → screen.now.picture.rows ≡ rows.now → ⊥) → told_of result ≡ (if is_renewed screen.now.origins (row_at rows.now line)
         (row_at screen.now.picture.rows line) line
         then Some (line_of screen.now.picture.lines rows.now (row_at screen.now.picture.rows line))
         else None) }
     ensures number { IfSome result (λ renewed. IfSome renewed.number (λ number. number
         ≡ row_number (row_at screen.now.picture.rows line))) }
 {
-    if some && has_come(rows, screen, line, guess) {
+    if !some_differs(&rows[line as usize - 1], screen, line, some) {
+        return None;
+    }
+    if has_come(rows, screen, line, guess) {
         return Some(Renewed {
             number: None,
             was: line_at(rows, guess, marked, marks),
@@ -230,10 +244,36 @@ fn renewed_line(
             was: line_at(rows, guess, marked, marks),
         });
     }
-    if is_renewed(&rows[line as usize - 1], screen, line) {
+    if still_differs(&rows[line as usize - 1], screen, line, some) {
         return Some(renewed_of(rows, screen.row(line), screen.used(line)));
     }
     None
+}
+
+/// Whether some row is another one, as may be known, or the one of this line is.
+fn some_differs(row: &KeptRow, screen: &Screen, line: u16, some: bool) -> bool
+    requires low { 1 ≤ line }
+    requires high { line ≤ screen.now.picture.lines }
+    requires touched { is_touched screen.now.origins line ≡ true }
+    ensures none { result ≡ false → is_renewed screen.now.origins row.now
+        (row_at screen.now.picture.rows line) line ≡ false }
+    ensures some { result ≡ true → some ≡ false → is_renewed screen.now.origins row.now
+        (row_at screen.now.picture.rows line) line ≡ true }
+{
+    some || is_renewed(row, screen, line)
+}
+
+/// Whether the row of this line is another one. Where that isn't known of some row, it was found of this one.
+fn still_differs(row: &KeptRow, screen: &Screen, line: u16, some: bool) -> bool
+    requires low { 1 ≤ line }
+    requires high { line ≤ screen.now.picture.lines }
+    requires touched { is_touched screen.now.origins line ≡ true }
+    requires found { some ≡ false → is_renewed screen.now.origins row.now
+        (row_at screen.now.picture.rows line) line ≡ true }
+    ensures { result ≡ is_renewed screen.now.origins row.now
+        (row_at screen.now.picture.rows line) line }
+{
+    !some || is_renewed(row, screen, line)
 }
 
 /// Whether the sheet tells that the row of a line came up from behind so many lines, while the one that was kept of the
@@ -317,10 +357,10 @@ pub(crate) fn changed_rows(
     alloc: Global,
     rows: &[KeptRow],
     screen: &Screen,
-) -> Result<Vec<(u16, Renewed)>, AllocError>
+) -> Result<Vec<Renewal>, AllocError>
     requires { length rows.now ≡ screen.now.picture.lines }
     ensures changed { IfOk result (λ changed. MarksTell rows.now screen.now.origins screen.now.picture.rows
-        → map told changed.items ≡ renewed screen.now.origins screen.now.picture.lines rows.now
+        → flat_map told changed.items ≡ renewed screen.now.origins screen.now.picture.lines rows.now
         screen.now.picture.rows) }
     ensures lines { IfOk result (λ changed. AreLines screen.now.picture.lines changed.items) }
     ensures numbers { IfOk result (λ changed. AreNumbered screen.now.picture.rows changed.items) }
@@ -340,63 +380,115 @@ pub(crate) fn changed_rows(
             // Behind as many lines the next row is looked for.
             let place = (line as usize).wrapping_add(shift);
             marked = mark_to(rows, marked, place, &mut marks);
-            changed.push((line, renewed))?;
-            (next, marked) = push_come(
-                rows,
-                screen,
-                next,
-                shift,
-                marked,
-                &mut marks,
-                &mut changed,
-            )?;
+            (next, marked) = come_end(rows, screen, next, shift, marked, &mut marks);
+            push_renewed(line, next, shift, renewed, screen.lines(), &mut changed)?;
         }
         line = screen.next_touched(next);
     }
     Ok(changed)
 }
 
-/// Adds the lines from one on whose rows came up by as many lines, if the sheet tells so, as long as they differ and no
-/// row above was the same; tells where they end, and how many rows are marked then. Some row is another one.
-fn push_come(
+/// Adds a line, and the lines behind it, to before another, that came up by so many: as one block where it did so, too.
+fn push_renewed(
+    line: u16,
+    end: u16,
+    shift: usize,
+    renewed: Renewed,
+    lines: u16,
+    changed: &mut Vec<Renewal>,
+) -> Result<(), AllocError>
+    requires low { 1 ≤ line }
+    requires high { line ≤ lines }
+    requires apart { line < end }
+    requires come { line + 1 < end → (1 ≤ shift) × (end + shift ≤ lines + 1) }
+    ensures told { OnOk result (flat_map told changed.new.items ≡ flat_map told changed.old.items
+        ++ ((line, renewed.was) ∷ come_told (line + 1) end shift)) }
+    ensures lines { OnOk result (AreLines lines changed.old.items → AreLines lines changed.new.items) }
+    ensures numbers { OnOk result ((rows : List (List Cell)) → IfSome renewed.number (λ number. number
+        ≡ row_number (row_at rows line)) → AreNumbered rows changed.old.items
+        → AreNumbered rows changed.new.items) }
+{
+    if has_come_by(renewed, line, shift, lines) {
+        push_block(line, end, shift, lines, changed)?;
+        return Ok(());
+    }
+    changed.push(Renewal::Line(line, renewed))?;
+    push_block(line + 1, end, shift, lines, changed)?;
+    Ok(())
+}
+
+/// Adds the lines from one to before another, which came up by so many, if there are any.
+fn push_block(
+    from: u16,
+    end: u16,
+    shift: usize,
+    lines: u16,
+    changed: &mut Vec<Renewal>,
+) -> Result<(), AllocError>
+    requires low { 1 ≤ from }
+    requires come { from < end → (1 ≤ shift) × (end + shift ≤ lines + 1) }
+    ensures told { OnOk result (flat_map told changed.new.items ≡ flat_map told changed.old.items
+        ++ come_told from end shift) }
+    ensures lines { OnOk result (AreLines lines changed.old.items → AreLines lines changed.new.items) }
+    ensures numbers { OnOk result ((rows : List (List Cell)) → AreNumbered rows changed.old.items
+        → AreNumbered rows changed.new.items) }
+{
+    if end <= from {
+        return Ok(());
+    }
+    let shift = shift as u16;
+    changed.push(Renewal::Moved(Block { from, end, shift }))?;
+    Ok(())
+}
+
+/// Whether the row of a line was so many lines further down, and still on the sheet.
+fn has_come_by(renewed: Renewed, line: u16, shift: usize, lines: u16) -> bool
+    ensures was { result ≡ true → renewed.was ≡ Some (line + shift) }
+    ensures some { result ≡ true → 1 ≤ shift }
+    ensures within { result ≡ true → line + shift ≤ lines }
+{
+    let line = line as usize;
+    match renewed.was {
+        Some(other) => line < other && other <= lines as usize && other - line == shift,
+        None => false,
+    }
+}
+
+/// Where the lines end, from one on, whose rows came up by as many lines, if the sheet tells so, as long as they differ and
+/// no row above was the same; and how many rows are marked then. Some row is another one.
+fn come_end(
     rows: &[KeptRow],
     screen: &Screen,
     from: u16,
     shift: usize,
     marked: usize,
     marks: &mut [bool; MARKS],
-    changed: &mut Vec<(u16, Renewed)>,
-) -> Result<(u16, usize), AllocError>
+) -> (u16, usize)
     requires low { 1 ≤ from }
     requires high { from ≤ screen.now.picture.lines + 1 }
     requires rows { length rows.now ≡ screen.now.picture.lines }
     requires marked { AreMarked rows.now marked marks.old }
-    ensures low { IfOk result (λ r. from ≤ r.0) }
-    ensures high { IfOk result (λ r. r.0 ≤ screen.now.picture.lines + 1) }
-    ensures marked { IfOk result (λ r. AreMarked rows.now r.1 marks.new) }
-    ensures told { IfOk result (λ r. AreTold rows.now screen.now.origins screen.now.picture.rows
-        → map told changed.old.items ≡ renewed_to (from - 1) screen.now.origins screen.now.picture.lines
-        rows.now screen.now.picture.rows
-        → map told changed.new.items ≡ renewed_to (r.0 - 1) screen.now.origins screen.now.picture.lines
-        rows.now screen.now.picture.rows) }
-    ensures lines { IfOk result (λ _. AreLines screen.now.picture.lines changed.old.items
-        → AreLines screen.now.picture.lines changed.new.items) }
-    ensures numbers { IfOk result (λ _. AreNumbered screen.now.picture.rows changed.old.items
-        → AreNumbered screen.now.picture.rows changed.new.items) }
+    ensures low { from ≤ result.0 }
+    ensures high { result.0 ≤ screen.now.picture.lines + 1 }
+    ensures within { from < result.0 → (1 ≤ shift)
+        × (result.0 + shift ≤ screen.now.picture.lines + 1) }
+    ensures marked { AreMarked rows.now result.1 marks.new }
+    ensures come { AreTold rows.now screen.now.origins screen.now.picture.rows
+        → CameUp screen.now.origins screen.now.picture.lines rows.now screen.now.picture.rows
+        from result.0 shift }
 {
-    if rows.len() < shift || marked != from as usize - 1 + shift {
-        return Ok((from, marked));
+    if shift == 0 || rows.len() < shift || marked != from as usize - 1 + shift {
+        return (from, marked);
     }
+    // Behind this line no row can have come up by as many.
+    let last = screen.lines() as usize - shift;
     let mut end = from;
-    while comes_first(rows, screen, end, shift, marks) {
-        let place = end as usize - 1 + shift;
-        let came = &rows[place];
+    while end as usize <= last && comes_first(rows, screen, end, shift, marks) {
+        let came = &rows[end as usize - 1 + shift];
         marks[mark_of(came.number)] = true;
-        let was = Some(place + 1);
-        changed.push((end, Renewed { number: None, was }))?;
         end += 1;
     }
-    Ok((end, end as usize - 1 + shift))
+    (end, end as usize - 1 + shift)
 }
 
 /// Whether the sheet tells that the row of a line came up by so many lines, while the one that was kept of the line has
@@ -409,13 +501,11 @@ fn comes_first(
     marks: &[bool; MARKS],
 ) -> bool
     requires low { 1 ≤ line }
-    requires high { line ≤ screen.now.picture.lines + 1 }
+    requires high { line + shift ≤ screen.now.picture.lines }
+    requires small { line + shift ≤ u16.MAX }
     requires rows { length rows.now ≡ screen.now.picture.lines }
-    requires shift { shift ≤ length rows.now }
+    requires some { 1 ≤ shift }
     requires marked { AreMarked rows.now (line - 1 + shift) marks.now }
-    ensures within { result ≡ true → line + shift ≤ screen.now.picture.lines }
-    ensures next { result ≡ true → line < line + shift }
-    ensures small { result ≡ true → line + shift ≤ u16.MAX }
     ensures renewed { AreTold rows.now screen.now.origins screen.now.picture.rows → result ≡ true
         → is_renewed screen.now.origins (row_at rows.now line)
         (row_at screen.now.picture.rows line) line ≡ true }
@@ -424,9 +514,6 @@ fn comes_first(
         ≡ Some (line + shift) }
 {
     let place = line as usize - 1;
-    if shift == 0 || rows.len() - shift <= place {
-        return false;
-    }
     if screen.origin(line) as usize != place + 1 + shift {
         return false;
     }
@@ -479,58 +566,4 @@ fn is_renewed(row: &KeptRow, screen: &Screen, line: u16) -> bool
         (row_at screen.now.picture.rows line) line }
 {
     !row.is_same(screen.row(line), screen.used(line))
-}
-
-/// The line that a row was before, where its cells are kept still and are needed for no other line: it lies behind the
-/// last one that was written, and is itself among those that become another row. Rows that scroll up are all such.
-fn source_of(changed: &[(u16, Renewed)], at: usize, last: usize) -> Option<usize>
-    requires { at < length changed.now }
-    ensures { IfSome result (λ from. MovedUp changed.now at last from) }
-{
-    let (line, renewed) = changed[at];
-    let line = line as usize;
-    let from = renewed.was?;
-    if from <= line || from <= last {
-        return None;
-    }
-    let steps = from - line;
-    if steps < changed.len() - at && changed[at + steps].0 as usize == from {
-        Some(from)
-    } else {
-        None
-    }
-}
-
-/// The rows become those of the sheet that is shown, of the same size, where it is known which lines differ. A row that
-/// moved up changes places with the one that is kept of its line, so that no cells are copied.
-pub(crate) fn catch_up(rows: &mut [KeptRow], changed: &[(u16, Renewed)], screen: &Screen)
-    requires rows { length rows.old ≡ screen.now.picture.lines }
-    requires lines { AreLines screen.now.picture.lines changed.now }
-    requires numbers { AreNumbered screen.now.picture.rows changed.now }
-    ensures { AreWide screen.now.picture.lines screen.now.picture.columns rows.old
-        → MarksTell rows.old screen.now.origins screen.now.picture.rows
-        → map told changed.now ≡ renewed screen.now.origins screen.now.picture.lines rows.old
-        screen.now.picture.rows
-        → KeptAll screen.now.picture.lines screen.now.picture.columns rows.new
-        screen.now.picture.rows }
-{
-    screens_are_sound(screen);
-    // Behind this line each row is the one that was kept.
-    let mut last = 0;
-    for at in 0..changed.len() {
-        let (line, renewed) = changed[at];
-        let place = line as usize - 1;
-        match source_of(changed, at, last) {
-            Some(from) => {
-                rows.swap(place, from - 1);
-                last = from;
-            }
-            None => {
-                let (cells, used) = (screen.row(line), screen.used(line));
-                let number = renewed.number_of(cells, used);
-                rows[place].copy_from(cells, used, number);
-                last = last.max(line as usize);
-            }
-        }
-    }
 }

@@ -1,9 +1,11 @@
 //! The page of a terminal of today: a recording's screens as entries, which a browser folds.
 #![tactic(auto)]
 
+mod caught;
 mod entry_printer;
 mod kept;
 pub mod laws;
+mod moved;
 mod numbers;
 mod page_file;
 mod rows;

@@ -2,7 +2,7 @@
 
 ghost use Rattle.std.specs.Prelude.{◌≡◌, ℕ, ◌+◌, ◌-◌, ◌<◌, ◌≤◌, ◌∷◌, ◌++◌, IsTrue, drop, encode_utf8, false, length, take, true};
 ghost use Rattle.std.specs.List.{flat_map};
-ghost use Rattle.screen_page.specs.EntryText.{comma_number, string_byte};
+ghost use Rattle.screen_page.specs.EntryText.{string_byte};
 ghost use Rattle.sheet.specs.Grid.{IsUsed};
 ghost use Rattle.xterm_rows.specs.Groups.{group_end};
 ghost use Rattle.xterm_rows.specs.Letters.{AreLetters, IsLetter};
@@ -13,6 +13,7 @@ ghost use Rattle.xterm_page.specs.EntryText.{named_text, numbers_text, row_text,
 ghost use Rattle.held.specs.Held.{Wrote};
 ghost use Rattle.xterm_page.specs.Plain.{IsPlain, string_of};
 
+use crate::moved::put_moved;
 use crate::numbers::put_comma_number;
 use arrayvec::ArrayVec;
 use held::{HELD, put, put_byte};
@@ -41,41 +42,6 @@ pub(crate) fn put_changed<W: Write>(
             put_row(cells, used, held, writer);
         }
     }
-}
-
-/// Writes a line, and the line that was its row. Most numbers have two digits.
-fn put_moved<W: Write>(
-    line: usize,
-    other: usize,
-    held: &mut ArrayVec<u8, HELD>,
-    writer: &mut Watched<W>,
-)
-    ensures { Wrote W.contents writer.old held.old.items writer.new held.new.items
-        (comma_number line ++ comma_number other) }
-{
-    if have_two_digits(line, other) {
-        let (line, other) = (line as u8, other as u8);
-        let (tens, ones) = (b'0' + line / 10, b'0' + line % 10);
-        let (other_tens, other_ones) = (b'0' + other / 10, b'0' + other % 10);
-        put(
-            &[b',', tens, ones, b',', other_tens, other_ones],
-            held,
-            writer,
-        );
-    } else {
-        put_comma_number(line, held, writer);
-        put_comma_number(other, held, writer);
-    }
-}
-
-/// Whether two numbers have two digits.
-fn have_two_digits(one: usize, other: usize) -> bool
-    ensures low { result ≡ true → 10 ≤ one }
-    ensures high { result ≡ true → one < 100 }
-    ensures other_low { result ≡ true → 10 ≤ other }
-    ensures other_high { result ≡ true → other < 100 }
-{
-    10 <= one && one < 100 && 10 <= other && other < 100
 }
 
 /// Writes a row behind a comma. Behind so many cells all are blank.

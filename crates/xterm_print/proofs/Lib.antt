@@ -1,7 +1,7 @@
 pub mod PlainLemmas
 pub mod KeptLemmas
 pub mod SameLemmas
-mod TurnedLemmas
+pub mod TurnedLemmas
 pub mod ShownLemmas
 mod FindRowLemmas
 mod BlankLemmas

@@ -1,13 +1,12 @@
 use Rattle.std.proofs.Common.{◌∷◌, ◌++◌, List, [], ℕ, ap, subst, sym, ◌∙◌}
 use Rattle.std.specs.List.{flat_map}
-use Rattle.std.proofs.lemmas.List.Folds.{flat_map-map}
 use Rattle.tape_core.specs.Devices.{Gave}
 use Rattle.xterm_screen.specs.Picture.{Picture}
 use Rattle.held.specs.Held.{Wrote}
 use Rattle.xterm_page.specs.Parts.{AreLines, front_text, lines_text, renewed_text, told}
-use Rattle.xterm_page.specs.declared.kept.Renewed.{Renewed}
+use Rattle.xterm_page.specs.declared.kept.Renewal.{Renewal}
 use Rattle.held.proofs.HeldLemmas.{gave_all, wrote_both}
-use Rattle.xterm_page.proofs.PageLemmas.{entry_is, lines_renewed}
+use Rattle.xterm_page.proofs.PageLemmas.{entry_is, renewals_written}
 use Rattle.xterm_page.proofs.entry_printer.put_entry.Goals as goal
 
 pub put_lines-requires : goal.put_lines-requires
@@ -19,9 +18,8 @@ returns g c = λ before tells is.
     let after = seen.console in
     let joins = c.gives_join.ensures in
     let told = subst (Wrote g.W.Write.contents c.put_front.new.writer c.put_front.new.held.items c.put_lines.new.writer c.put_lines.new.held.items)
-    (ap (λ (p : Picture). flat_map (λ (x : ℕ × Renewed). renewed_text p.rows (told x)) c.args.changed.now) c.screen.ensures.value
-    ∙ sym (flat_map-map (renewed_text after.picture.rows) told c.args.changed.now)
-    ∙ ap (flat_map (renewed_text after.picture.rows)) is ∙ lines_renewed seen.origins after.picture.lines before after.picture.rows) c.put_lines.ensures in
+    (ap (λ (p : Picture). flat_map (λ (x : Renewal). flat_map (renewed_text p.rows) (told x)) c.args.changed.now) c.screen.ensures.value
+    ∙ renewals_written seen.origins after.picture.lines before after.picture.rows c.args.changed.now is) c.put_lines.ensures in
     let all = wrote_both c.put_byte.ensures (wrote_both told (wrote_both c.put_front.ensures c.put.ensures)) in
     let text = (((44 ∷ 10 ∷ 91 ∷ []) ++ front_text c.args.due after) ++ lines_text seen.origins after.picture.lines before after.picture.rows) ++ 93 ∷ [] in
     let opened = subst (λ (x : List ℕ). Wrote g.W.Write.contents c.args.writer.now x c.put_byte.new.writer c.put_byte.new.held.items text) c.new-held.ensures all in

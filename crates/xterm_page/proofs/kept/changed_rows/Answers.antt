@@ -1,34 +1,50 @@
-use Rattle.std.proofs.Common.{◌≡◌, ◌≢◌, ◌+◌, ◌-◌, ◌<◌, ◌≤◌, ℕ, [], ◌∷◌, ◌++◌, false, true, ap, sym, subst, ◌∙◌, arith, IfSome, Option, Some, None, length, map, not, append-nil, if◌then◌else◌}
+use Rattle.std.proofs.Common.{◌≡◌, ◌≢◌, ◌+◌, ◌-◌, ◌<◌, ◌≤◌, false, true, ap, sym, subst, ◌∙◌, arith, IfSome, Option, Some, None, length, not, append-nil, if◌then◌else◌}
+use Rattle.std.specs.List.{flat_map}
 use Rattle.std.proofs.lemmas.Bool.{false≢true, not-true}
 use Rattle.std.proofs.lemmas.Bool.Decides.{Decides-eqb}
-use Rattle.std.proofs.lemmas.List.{length-replicate, map-append}
-use Rattle.std.proofs.lemmas.List.Elements.{All-append, All-cons, All-nil}
+use Rattle.std.proofs.lemmas.List.{length-replicate}
+use Rattle.std.proofs.lemmas.List.Elements.{All-nil}
 use Rattle.std.proofs.lemmas.Option.{cond_some}
 use Rattle.sheet.specs.Grid.{AreMarked as MarksTell, row_at}
 use Rattle.xterm_page.specs.Entries.{line_of}
-use Rattle.xterm_page.specs.Parts.{AreLines, AreNumbered, is_renewed, renewed_to, told, told_of}
+use Rattle.xterm_page.specs.Parts.{AreLines, AreNumbered, IsNumbered, IsWithin, is_renewed, renewed_to, told, told_of}
 use Rattle.xterm_page.specs.Same.{row_number}
 use Rattle.xterm_page.specs.declared.kept.Renewed.{Renewed}
-use Rattle.xterm_page.proofs.RenewedLemmas.{renewed_more, renewed_none, some_renewed, told_none}
+use Rattle.xterm_page.proofs.RenewedLemmas.{renewed_apart, renewed_more, renewed_none, renewed_pushed, some_renewed, some_told, told_none}
 use Rattle.xterm_page.proofs.kept.changed_rows.Goals as goal
-use Rattle.xterm_page.proofs.kept.changed_rows.Goals.{in-Some+in_ok-push+in_ok-next, in_default}
+use Rattle.xterm_page.proofs.kept.changed_rows.Goals.{in-Some+in_ok-push_renewed, in_default}
+
+pub come_end-requires : goal.come_end-requires
+come_end-requires c = record {
+  low = omega arith;
+  high = omega (arith, c.lines-in-loop-line.ensures.value);
+  rows = c.requires;
+  marked = c.mark_to-marked.ensures;
+}
+
+pub push_renewed-requires : goal.push_renewed-requires
+push_renewed-requires c = record {
+  low = c.loop-line.invariant.low;
+  high = omega arith;
+  apart = omega (arith, c.come_end.ensures.low);
+  come = λ more. (let come = c.come_end.ensures.within more in (come.0, omega (arith, come.1)));
+}
 
 pub loop-line-init : goal.loop-line-init
 loop-line-init c =
     let first = c.next_touched-line.ensures in
     let lines = c.args.screen.now.picture.lines in
+    let after = c.args.screen.now.picture.rows in
     let none = sym c.in_ok-changed.ensures.items in
-    let one : ℕ × Renewed → Type 0 = λ o. (1 ≤ o.0) × (o.0 ≤ lines) in
-    let numbered : ℕ × Renewed → Type 0 = λ o. IfSome o.1.number (λ number. number ≡ row_number (row_at c.args.screen.now.picture.rows o.0)) in
     record {
       low = first.low;
       high = first.high;
       touched = first.touched;
-      told = λ _. ap (map told) c.in_ok-changed.ensures.items
-          ∙ renewed_none c.args.screen.now.origins lines c.args.rows.now c.args.screen.now.picture.rows 1 c.next_touched-line.result (omega arith) first.low first.between;
-      lines = subst (AreLines lines) none (All-nil one);
-      numbers = subst (AreNumbered c.args.screen.now.picture.rows) none (All-nil numbered);
-      long = length-replicate 256 false;
+      told = λ _. ap (flat_map told) c.in_ok-changed.ensures.items
+          ∙ renewed_none c.args.screen.now.origins lines c.args.rows.now after 1 c.next_touched-line.result (omega arith) first.low first.between;
+      lines = subst (AreLines lines) none (All-nil (IsWithin lines));
+      numbers = subst (AreNumbered after) none (All-nil (IsNumbered after));
+      long = length-replicate 2048 false;
       marked = λ line low high. absurd (omega (arith, low, high));
     }
 
@@ -44,17 +60,16 @@ loop-line-preserved c =
     let here = is_renewed origins (row_at rows line) (row_at after line) line in
     let old = c.loop-line.changed.items in
     let was = line_of lines rows (row_at after line) in
-    let one : ℕ × Renewed → Type 0 = λ o. (1 ≤ o.0) × (o.0 ≤ lines) in
-    let numbered : ℕ × Renewed → Type 0 = λ o. IfSome o.1.number (λ number. number ≡ row_number (row_at after o.0)) in
     let count = c.loop-line.changed.len in
     let nonempty : not c.is_empty-some.result ≡ true → 0 < length old = λ some.
     let apart : count ≢ 0 = λ e. false≢true (sym (sym c.is_empty-some.ensures ∙ not-true c.is_empty-some.result some) ∙ (Decides-eqb count 0).1 e) in
     omega (arith, apart, c.loop-line.changed.ok.0) in
     let known : MarksTell rows origins after → told_of c.renewed_line.result ≡ (if here then Some was else None) = λ marks.
-    c.renewed_line.ensures.told (λ some. marks.move (some_renewed origins lines rows after (line - 1) old (kept.told marks) (nonempty some))) in
+    c.renewed_line.ensures.told marks (λ some.
+    some_renewed origins lines rows after (line - 1) (flat_map told old) (kept.told marks) (some_told lines old kept.lines (nonempty some))) in
     let n = c.match-renewed_line.next in
     let low : line + 1 ≤ n = elim c.match-renewed_line.branch [
-      | in-Some+in_ok-push+in_ok-next w ↦ rw w.next-is w.in_ok-next.ensures.low
+      | in-Some+in_ok-push_renewed w ↦ rw w.next-is w.come_end.ensures.low
       | in_default w ↦ rw w.next-is (omega arith)
     ] in
     let passed = renewed_none origins lines rows after n next.result (omega (arith, low)) next.ensures.low next.ensures.between in
@@ -63,40 +78,34 @@ loop-line-preserved c =
       high = next.ensures.high;
       touched = next.ensures.touched;
       told = λ marks. (elim c.match-renewed_line.branch [
-        | in-Some+in_ok-push+in_ok-next w ↦
+        | in-Some+in_ok-push_renewed w ↦
             let r = w.in-Some.renewed in
-            let pushed = w.push.new.self.items in
             let is = cond_some here was r.was (sym (known marks) ∙ ap told_of w.in-Some.is) in
-            let first = renewed_more origins lines rows after line true (map told old) (map told pushed) kept.low (sym is.0) (kept.told marks)
-            (ap (map told) w.in_ok-push.ensures.items ∙ map-append told old ((line, r) ∷ [])
-            ∙ ap (λ (o : Option ℕ). map told old ++ (line, o) ∷ []) (sym is.1)) in
-            let tells = marks.move (some_renewed origins lines rows after (line + 1 - 1) pushed first (omega (arith, w.in_ok-push.ensures.len, w.push.new.self.ok.0))) in
-            rw (w.changed-is, w.next-is) (w.in_ok-next.ensures.told tells first)
+            let tells = marks.move (renewed_apart origins rows after line is.0) in
+            rw (w.changed-is, w.next-is) (renewed_pushed origins lines rows after line w.come_end.result.0 w.shift_by-shift.result r.was (flat_map told old) (flat_map told w.push_renewed.new.changed.items)
+            kept.low (omega (arith, w.come_end.ensures.low)) is.0 is.1 (w.come_end.ensures.come tells) (kept.told marks) w.in_ok-push_renewed.ensures.told)
         | in_default w ↦
-            rw (w.changed-is, w.next-is) (renewed_more origins lines rows after line false (map told old) (map told old) kept.low
-            (sym (told_none c.renewed_line.result here was w.in_default.not-Some (known marks))) (kept.told marks) (sym (append-nil (map told old))))
+            rw (w.changed-is, w.next-is) (renewed_more origins lines rows after line false (flat_map told old) (flat_map told old) kept.low
+            (sym (told_none c.renewed_line.result here was w.in_default.not-Some (known marks))) (kept.told marks) (sym (append-nil (flat_map told old))))
       ]) ∙ passed;
       lines = elim c.match-renewed_line.branch [
-        | in-Some+in_ok-push+in_ok-next w ↦
-            rw w.changed-is (w.in_ok-next.ensures.lines (subst (AreLines lines) (sym w.in_ok-push.ensures.items)
-            (All-append one old ((line, w.in-Some.renewed) ∷ []) kept.lines (All-cons one (line, w.in-Some.renewed) [] (kept.low, omega arith) (All-nil one)))))
+        | in-Some+in_ok-push_renewed w ↦ rw w.changed-is (subst (λ m. AreLines m w.push_renewed.new.changed.items) w.lines-in-Some.ensures.value
+            (w.in_ok-push_renewed.ensures.lines (subst (λ m. AreLines m old) (sym w.lines-in-Some.ensures.value) kept.lines)))
         | in_default w ↦ rw w.changed-is kept.lines
       ];
       numbers = elim c.match-renewed_line.branch [
-        | in-Some+in_ok-push+in_ok-next w ↦
-            let r = w.in-Some.renewed in
+        | in-Some+in_ok-push_renewed w ↦
             let number = subst (λ (o : Option Renewed). IfSome o (λ renewed. IfSome renewed.number (λ number. number ≡ row_number (row_at after line))))
             w.in-Some.is c.renewed_line.ensures.number in
-            rw w.changed-is (w.in_ok-next.ensures.numbers (subst (AreNumbered after) (sym w.in_ok-push.ensures.items)
-            (All-append numbered old ((line, r) ∷ []) kept.numbers (All-cons numbered (line, r) [] number (All-nil numbered)))))
+            rw w.changed-is (w.in_ok-push_renewed.ensures.numbers after number kept.numbers)
         | in_default w ↦ rw w.changed-is kept.numbers
       ];
       long = elim c.match-renewed_line.branch [
-        | in-Some+in_ok-push+in_ok-next w ↦ rw w.marks-is w.push_come.array_long
+        | in-Some+in_ok-push_renewed w ↦ rw w.marks-is w.come_end.array_long
         | in_default w ↦ rw w.marks-is kept.long
       ];
       marked = elim c.match-renewed_line.branch [
-        | in-Some+in_ok-push+in_ok-next w ↦ rw (w.marked-is, w.marks-is) w.in_ok-next.ensures.marked
+        | in-Some+in_ok-push_renewed w ↦ rw (w.marked-is, w.marks-is) w.come_end.ensures.marked
         | in_default w ↦ rw (w.marked-is, w.marks-is) kept.marked
       ];
     }

@@ -22,7 +22,7 @@ returns-then-was-own c =
     let other = c.index-rows-place-2.result in
     let number = c.was.inside.number in
     let place = line - 1 + shift in
-    let fits : line + shift ≤ length rows = omega (arith, c.if-rows-shift.false, c.requires.low, c.requires.shift) in
+    let fits : line + shift ≤ length rows = omega (arith, c.requires.high, c.requires.rows) in
     let within : place < length rows = omega (arith, fits, c.requires.low) in
     let next : place + 1 ≡ line + shift = omega (arith, c.requires.low) in
     let there : place + 1 - 1 ≡ place = omega arith in
@@ -34,16 +34,13 @@ returns-then-was-own c =
     let numbered : AreTold rows c.args.screen.now.origins after → number ≡ row_number now = λ told.
     c.was.invariant.number ∙ ap row_number (c.was.view_is ∙ sym (same told ∙ read)) in
     record {
-      within = λ _. omega (arith, fits, c.requires.rows);
-      next = λ _. omega (arith, c.if-shift-eq0.false);
-      small = λ _. omega (arith, origin, next, c.origin.ensures, c.origin.type_inv);
       renewed = λ told _.
           let apart : row_number other ≢ row_number now = λ e.
           c.if-was-own.true (numbered told ∙ sym e ∙ ap row_number (sym c.own.view_is) ∙ sym c.own.invariant.number) in
-          let touched = ap not (other_is (origin_of c.args.screen.now.origins line) line (omega (arith, origin, next, c.if-shift-eq0.false))) in
+          let touched = ap not (other_is (origin_of c.args.screen.now.origins line) line (omega (arith, origin, next, c.requires.some))) in
           ap₂ (λ (a b : Bool). a && not b) touched (ap (λ r. same_row r now) own ∙ other_numbers other now apart);
       was = λ told is.
-          let none : get_or c.args.marks.now (number % 256) false ≡ false =
+          let none : get_or c.args.marks.now (number % 2048) false ≡ false =
           ap (λ n. get_or c.args.marks.now n false) (sym c.mark_of.ensures.value) ∙ not-true (get_or c.args.marks.now c.mark_of.result false) is in
           ap (λ n. line_of n rows now) (sym c.requires.rows)
           ∙ first_by_mark rows now place place number c.args.marks.now within (ap (λ r. same_row r now) (sym (same told)) ∙ row_itself now) (numbered told) c.requires.marked (omega arith) none

@@ -48,5 +48,5 @@ returns-then-not-marks-mark_of c =
     let own = row_at rows (place + 1) in
     let number = c.row.invariant.number
     ∙ ap row_number (c.row.view_is ∙ sym (read rows place c.index-rows-place.result (omega (arith, c.requires.within)) c.index-rows-place.is)) in
-    let none : get_or marks (c.row.inside.number % 256) false ≡ false = ap (λ n. get_or marks n false) (sym c.mark_of.ensures.value) ∙ c.if-not-marks-mark_of.true in
+    let none : get_or marks (c.row.inside.number % 2048) false ≡ false = ap (λ n. get_or marks n false) (sym c.mark_of.ensures.value) ∙ c.if-not-marks-mark_of.true in
     sym (first_by_mark rows own place c.args.marked c.row.inside.number marks c.requires.within (row_itself own) number c.requires.marked c.if-place-marked.true none)

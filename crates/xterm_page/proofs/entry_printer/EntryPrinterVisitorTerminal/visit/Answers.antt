@@ -1,4 +1,5 @@
-use Rattle.std.proofs.Common.{◌≡◌, ◌∙◌, List, ℕ, length, map, ap, ap₂, sym, subst, arith}
+use Rattle.std.proofs.Common.{◌≡◌, ◌∙◌, List, ℕ, length, ap, ap₂, sym, subst, arith}
+use Rattle.std.specs.List.{flat_map}
 use Rattle.tape_core.specs.Devices.{Gave}
 use Rattle.sheet.specs.Cells.{Cell}
 use Rattle.sheet.specs.Grid.{AreMarked as MarksTell}
@@ -37,7 +38,7 @@ returns-in_ok-changed-clause-gave g c = λ profile before after are shows tells.
     subst (λ (rows : List (List Cell)). MarksTell rows c.screen-screen.result.now.origins p.rows) (sym was)
     (subst (λ (q : Picture). MarksTell old_rows c.screen-screen.result.now.origins q.rows) (sym c.screen-screen.ensures.value)
     (subst (λ (t : List ℕ). MarksTell old_rows t c.args.terminal.now.console.picture.rows) (sym c.screen-screen.ensures.touched) tells)) in
-    let changed = ap (map told) c.as_slice-then-len-lines.ensures.value ∙ c.in_ok-changed.ensures.changed marks
+    let changed = ap (flat_map told) c.as_slice-then-len-lines.ensures.value ∙ c.in_ok-changed.ensures.changed marks
     ∙ ap (λ (rows : List (List Cell)). renewed c.screen-screen.result.now.origins p.lines rows p.rows) was
     ∙ ap₂ (λ (t : List ℕ) (q : Picture). renewed t q.lines old_rows q.rows) c.screen-screen.ensures.touched c.screen-screen.ensures.value in
     subst (Gave g.W.Write.contents c.args.writer.now c.put_entry.new.writer)
@@ -59,7 +60,7 @@ returns-in_ok-changed-clause-keeps g c = λ profile before after are shows tells
     let wide = wide_by law p c.args.terminal.now profile after c.as_mut_slice.result.now is shows
     (subst (λ rows. AreWide profile.lines profile.columns rows) (sym c.as_mut_slice.ensures.value) are.columns) in
     let copied = c.as_slice.ensures.value ∙ sym c.as_mut_slice.ensures.value in
-    let changed = ap (map told) c.as_slice-then-len-lines-2.ensures.value
+    let changed = ap (flat_map told) c.as_slice-then-len-lines-2.ensures.value
     ∙ c.in_ok-changed.ensures.changed (subst (λ (rows : List (List Cell)). MarksTell rows c.screen-screen.result.now.origins p.rows) (sym copied) marks)
     ∙ ap (λ (rows : List (List Cell)). renewed c.screen-screen.result.now.origins p.lines rows p.rows) copied in
     let kept = c.catch_up.ensures wide marks changed in

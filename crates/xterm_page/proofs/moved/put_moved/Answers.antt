@@ -1,7 +1,7 @@
 use Rattle.std.proofs.Common.{◌∷◌, ◌++◌, List, ℕ, ap₂, subst, sym}
 use Rattle.held.specs.Held.{Wrote}
 use Rattle.itoa.proofs.Decimal.{decimal_two}
-use Rattle.xterm_page.proofs.rows.put_moved.Goals as goal
+use Rattle.xterm_page.proofs.moved.put_moved.Goals as goal
 
 pub returns-then-have_two_digits : goal.returns-then-have_two_digits
 returns-then-have_two_digits g c =
