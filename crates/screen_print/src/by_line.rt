@@ -567,6 +567,9 @@ fn put_line<W: Write>(
 {
     gives_join::<W>();
     pair.other.sound();
+    if lost.places.is_empty() {
+        return;
+    }
     let (near, last) = reach(pair.one, line, lost.places.as_slice());
     if near > last {
         return;
