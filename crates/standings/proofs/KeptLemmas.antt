@@ -1,5 +1,5 @@
 -- Characters that are written over others, one after another: what stood before them stays.
-use Rattle.std.proofs.Common.{◌≡◌, ℕ, zero, suc, ◌+◌, ◌-◌, ◌<◌, ◌≤◌, true, List, [], ◌∷◌, ◌++◌, append_assoc, cond, drop, get_or, length, nat_eq, take, refl, ap, subst, sym, ◌∙◌, arith, inl, inr}
+use Rattle.std.proofs.Common.{◌≡◌, ℕ, zero, suc, ◌+◌, ◌-◌, ◌<◌, ◌≤◌, true, List, [], ◌∷◌, ◌++◌, append_assoc, cond, drop, get_or, length, min, nat_eq, take, refl, ap, subst, sym, ◌∙◌, arith, inl, inr}
 use Rattle.std.specs.Cmp.Lexicographic.{pointwise}
 use Rattle.std.proofs.lemmas.Bool.{cases_Bool, cases_eq, cases_lt, true≢false}
 use Rattle.std.proofs.lemmas.Bool.Decides.{nat_tests}
@@ -11,7 +11,7 @@ use Rattle.standings.specs.Spans.{places_along}
 use Rattle.standings.specs.Standing.{begins, count_left, left_of, line_text, place_at, place_in, places_in, standing}
 use Rattle.standings.specs.declared.place.Place.{Place}
 use Rattle.standings.proofs.FrontLemmas.{IsRewritten, NoNeighbours, as_many, begins_across, begins_before, begins_behind, first_left, in_three, in_two, last_written, leads, line_here, rewritten}
-use Rattle.standings.proofs.PlaceLemmas.{along_parts, standing_along}
+use Rattle.standings.proofs.PlaceLemmas.{along_fits, along_parts, along_within, standing_along}
 use Rattle.standings.proofs.RowLemmas.{places_more}
 use Rattle.standings.proofs.SpanLemmas.{line_below, places_of}
 
@@ -85,6 +85,41 @@ ends_here text rows places above before k i ends all low lt fits here =
     let within : found.0 < length places = omega (arith, found.1.0, ap length all) in
     subst (λ (p : Place). p.before + length text ≤ room_in rows above before p.above) at
     (ends found.0 within (subst (λ (p : Place). p.above ≤ above) (sym at) low))
+
+-- a row above has room for all its characters
+room_above : (rows : List Row) (above before k : ℕ) → k < above → room_in rows above before k ≡ length (row_below rows k).characters
+room_above rows above before k low = grind (arith, nat_tests)
+
+-- a text of one character ends in its row, so at the first places, the last of which is in a row above
+pub short_ends : (text : List ℕ) (rows : List Row) (places : List Place) (above before last n : ℕ) → length text ≤ 1 → places ≡ standing text rows → last ≤ length places → n < last
+    → (place_at places (last - 1)).above < above → (place_at places n).before + length text ≤ room_in rows above before (place_at places n).above
+short_ends text rows places above before last n short was within lt early =
+    let e = min above (length rows) in
+    let m = length rows - e in
+    let all : e + m ≡ length rows = omega arith in
+    let from : 0 + e ≡ e = omega arith in
+    let front = places_along text rows 0 e in
+    let rest = places_along text rows e m in
+    let split : places ≡ front ++ rest =
+    was ∙ standing_along text rows ∙ ap (places_along text rows 0) (sym all) ∙ along_parts text rows e m 0 ∙ ap (λ k. front ++ places_along text rows k m) from in
+    let many : length places ≡ length front + length rest = ap length split ∙ length-append front rest in
+    let tail = along_within text rows m e in
+    let deep : last - 1 < length front = elim (cases_lt (last - 1) (length front)) [
+      | inl inside ↦ inside
+      | inr past ↦
+          let i = last - 1 - length front in
+          let at : length front + i ≡ last - 1 = omega (arith, past) in
+          let some : i < length rest = omega (arith, past, lt, within, many) in
+          let there : place_at places (last - 1) ≡ place_at rest i =
+          ap (λ l. place_at l (last - 1)) split ∙ ap (λ j. place_at (front ++ rest) j) (sym at) ∙ get_or-append-add front rest i (place_in 0 0) in
+          absurd (omega (arith, tail.from i some, tail.to i some, ap (λ (p : Place). p.above) there, early))
+    ] in
+    let first : n < length front = omega (arith, deep, lt) in
+    let here : place_at places n ≡ place_at front n = ap (λ l. place_at l n) split ∙ get_or_append_left front rest (place_in 0 0) n first in
+    let low : (place_at front n).above < above = omega (arith, (along_within text rows e 0).to n first) in
+    let fits = along_fits text rows e 0 n first in
+    subst (λ (p : Place). p.before + length text ≤ room_in rows above before p.above) (sym here)
+    (omega (arith, fits, short, room_above rows above before (place_at front n).above low))
 
 -- ---- row by row
 
@@ -299,14 +334,11 @@ module _ (text : List ℕ) (above n : ℕ) (pre old new post : List ℕ) (first 
       omega (
         arith,
         long,
-        subst (λ m. i + length text ≤ m) (apart_room k low)
+        subst (λ m. i + length text ≤ m) (room_above first above (length pre) k low)
             (ends k i (omega arith) (omega (arith, low, inside)) (omega (arith, lt, ap (λ (r : Row). length r.characters) (here.others k (λ e. omega (arith, e, low)))))
             (ap (λ l. begins text l i) (first_is ∙ ap (λ l. front ++ l) line_first) ∙ too)),
       )) in
       ap (λ l. begins text l i) (other_too ∙ ap (λ l. front ++ l) line_other) ∙ goes_on front i begun_line fits
-    where
-      apart_room : (k : ℕ) → k < above → room_in first above (length pre) k ≡ length (row_below first k).characters
-      apart_room k low = grind (arith, nat_tests)
 
   row_above : (k : ℕ) → k < above → RowKeeps text one other k
   row_above k low i lt begun =

@@ -1,6 +1,6 @@
 //! What of a text went between two screens, told by what stands left of it.
 
-ghost use Rattle.std.specs.Prelude.{◌≡◌, ◌≢◌, [], ◌+◌, ◌<◌, ◌≤◌, false, true, List, ℕ, drop, length, IfOk, OnErr, OnOk};
+ghost use Rattle.std.specs.Prelude.{◌≡◌, ◌≢◌, [], ◌+◌, ◌-◌, ◌<◌, ◌≤◌, false, true, List, ℕ, drop, length, IfOk, OnErr, OnOk};
 ghost use Rattle.standings.specs.Kept.{EndBy, Keeps, room_in};
 ghost use Rattle.standings.specs.Lag.{Lags};
 ghost use Rattle.standings.specs.Moved.{moved_up};
@@ -12,7 +12,9 @@ ghost use Rattle.standings.specs.Written.{rows_written};
 use crate::follow::follow_rows;
 use crate::lag::Lag;
 use crate::near::{count_near, look_near, may_come_near, may_go_on, stand_there};
-use crate::place::{Place, look_between, may_come, may_come_below, move_places_up, standing};
+use crate::place::{
+    Place, count_up_to, look_between, may_come, may_come_below, move_places_up, standing,
+};
 use crate::row::{
     Row, characters_below, move_rows_up, shift_down, shift_up, turn_rows, turn_rows_back,
 };
@@ -276,12 +278,15 @@ pub fn is_lone(here: &Standing, one: &Standing, at: usize) -> bool
 
 /// Whether a text of so many characters ends, at each place at which it stands, before what is written behind so many
 /// characters of a row: it ends there, or inside a row above, or stands in a row below. They are looked at from the last one
-/// on, since few stand below what is written.
+/// on, since few stand below what is written; those of one character in rows above aren't.
 pub fn ends_before(still: &Standing, len: usize, above: usize, before: usize) -> bool
-    ensures { result ≡ true → EndBy len still.now.rows.items still.now.places.items above before }
+    ensures { result ≡ true → (text : List ℕ) → length text ≡ len
+        → still.now.places.items ≡ standing text still.now.rows.items
+        → EndBy len still.now.rows.items still.now.places.items above before }
 {
+    let ended = count_ended(still.places.as_slice(), len, above);
     let mut at = still.places.len();
-    while at > 0 {
+    while at > ended {
         at -= 1;
         if !ends_by(still.rows.as_slice(), still.places[at], len, above, before) {
             return false;
@@ -304,6 +309,18 @@ fn ends_by(rows: &[Row], place: Place, len: usize, above: usize, before: usize) 
         characters_below(rows, place.above).len()
     };
     len <= room && place.before <= room - len
+}
+
+/// How many of the first places at which a text of so many characters stands are in rows above one, where it surely ends.
+fn count_ended(places: &[Place], len: usize, above: usize) -> usize
+    ensures within { result ≤ length places.now }
+    ensures short { 0 < result → len ≤ 1 }
+    ensures above { 0 < result → (place_at places.now (result - 1)).above < above }
+{
+    if len > 1 {
+        return 0;
+    }
+    count_up_to(places, places.len(), above)
 }
 
 /// Whether surely nothing of a text that stands there goes where all rows move up by one: none of it begins in the first

@@ -8,6 +8,7 @@ mod BlankLemmas
 mod OverLemmas
 mod PlaceLemmas
 mod StylingLemmas
+mod PutLemmas
 mod RunLemmas
 mod PieceLemmas
 mod ErasedLemmas

@@ -268,8 +268,9 @@ fn set_written(terminal: &Terminal, bytes: &[u8]) -> Option<CharacterSet>
 /// Whether a text of so many characters ends left of the cursor, or in a row above, wherever it stands but in the rows
 /// below.
 pub(crate) fn ends_left(terminal: &Terminal, len: usize, still: &Standing) -> bool
-    ensures { result ≡ true → (x : Term) → Shows terminal.now x
+    ensures { result ≡ true → (text : List ℕ) (x : Term) → length text ≡ len → Shows terminal.now x
         → still.now.rows.items ≡ rows_behind x [] 0
+        → still.now.places.items ≡ standing text (rows_behind x [] 0)
         → EndBy len still.now.rows.items still.now.places.items
         (x.console.picture.line - 1) (length (left_of_cursor x)) }
 {

@@ -1,6 +1,6 @@
 //! Bytes that write characters of one column over plain cells, with sequences between them that select renditions.
 
-ghost use Rattle.std.specs.Prelude.{◌≡◌, ◌+◌, ◌-◌, ◌%◌, ◌<◌, ◌≤◌, ◌++◌, ℕ, Some, length, slice_index_or, take, true, false};
+ghost use Rattle.std.specs.Prelude.{◌≡◌, ◌+◌, ◌-◌, ◌%◌, ◌<◌, ◌≤◌, ◌++◌, List, ℕ, Some, length, slice_index_or, take, true, false};
 ghost use Rattle.xterm_rows.specs.Runs.{cell_behind};
 ghost use Rattle.xterm_term.specs.Ahead.{Letters, WritesStyled, letters_from, styling_behind};
 ghost use Rattle.xterm_term.specs.Seen.{Shows};
@@ -105,6 +105,10 @@ fn step(
         ≡ letters.old.items ++ letters_from set Letters (take result bytes.now) }
     ensures made { followers.new.made ≡ true → AreFollowers text.now followers.new.marks }
 {
+    let graphic = graphics_on(letters, set, cells, text, followers, bytes);
+    if graphic > 0 {
+        return graphic;
+    }
     let styled = styling_at(bytes);
     if styled > 0 {
         return styled;
@@ -117,6 +121,55 @@ fn step(
     }
     letters.push(letter.character);
     letter.taken
+}
+
+/// Goes on over graphic characters of ASCII alone, behind the second letter: most come so. Says how many bytes that took.
+#[inline]
+fn graphics_on(
+    letters: &mut LetterRun,
+    set: CharacterSet,
+    cells: &[Cell],
+    text: &[char],
+    followers: &mut Followers,
+    bytes: &[u8],
+) -> usize
+    requires few { length cells.now ≤ LETTERS }
+    requires made { followers.old.made ≡ true → AreFollowers text.now followers.old.marks }
+    requires over { GoOver text.now cells.now letters.old.items }
+    ensures over { GoOver text.now cells.now letters.new.items }
+    ensures within { result ≤ length bytes.now }
+    ensures styled { styling_behind set Letters (take result bytes.now) ≡ Some Letters }
+    ensures more { letters.new.items
+        ≡ letters.old.items ++ letters_from set Letters (take result bytes.now) }
+    ensures made { followers.new.made ≡ true → AreFollowers text.now followers.new.marks }
+{
+    if letters.len() < 2 || !matches!(set, CharacterSet::Ascii) {
+        return 0;
+    }
+    followers.make(text);
+    let mut taken = 0;
+    while taken < bytes.len() && matches!(bytes[taken], 32..=126) {
+        if !may_follow(cells, followers, letters.len()) {
+            return taken;
+        }
+        let Some(letter) = letter_at(set, &bytes[taken..]) else {
+            return taken;
+        };
+        letters.push(letter.character);
+        taken += letter.taken;
+    }
+    taken
+}
+
+/// Whether a character more may be put behind so many others, whatever they are, as the marks tell.
+#[inline(always)]
+fn may_follow(cells: &[Cell], followers: &Followers, at: usize) -> bool
+    ensures cells { result ≡ true → at < length cells.now }
+    ensures plain { result ≡ true → IsPlain (cell_behind cells.now at) }
+    ensures apart { result ≡ true → (text : List ℕ) → AreFollowers text followers.now.marks → (one : ℕ)
+        → AreApart text one (cell_behind cells.now at).character }
+{
+    at < cells.len() && cells[at].is_plain() && !followers.marks[mark_of(cells[at].character())]
 }
 
 /// Whether a character more may be put behind these.

@@ -1,4 +1,4 @@
-use Rattle.std.proofs.Common.{◌<◌, ◌-◌, arith, length, subst, sym}
+use Rattle.std.proofs.Common.{◌<◌, ◌-◌, arith, length, refl, subst, sym}
 use Rattle.std.specs.Prelude.{[]}
 use Rattle.standings.specs.Kept.{EndBy}
 use Rattle.standings.proofs.KeptLemmas.{ends_here}
@@ -21,7 +21,7 @@ returns-clause-foretold c = λ x shows rows places.
     let begun : 0 < taken = omega (arith, c.if-taken-eq0.false) in
     let erases = c.erases_right-taken.ensures.erases begun x shows in
     let within = c.erases_right-taken.ensures.within in
-    let ends = subst (λ r. EndBy (length text) r still.places.items above before) rows (c.ends_left.ensures c.if-not-ends_left.false x shows rows) in
+    let ends = subst (λ r. EndBy (length text) r still.places.items above before) rows (c.ends_left.ensures c.if-not-ends_left.false text x refl shows rows places) in
     run_foretold x text bytes _ _ (c.cursor_place-above.ensures.above x shows) (c.cursor_place-above.ensures.before x shows rows) sound
     (subst (λ l. WritesOver x bytes l taken) (sym c.put_spaces.ensures) (erased_written x count text bytes taken sound erasable begun within erases))
     (erased_stays x count text bytes taken sound erasable begun within erases

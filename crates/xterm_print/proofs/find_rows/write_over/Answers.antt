@@ -1,4 +1,4 @@
-use Rattle.std.proofs.Common.{◌≡◌, ◌+◌, ◌<◌, ◌∙◌, ◌∷◌, [], ap, arith, get_or, length, set, subst, take}
+use Rattle.std.proofs.Common.{◌≡◌, ◌+◌, ◌<◌, ◌∙◌, ◌∷◌, [], ap, arith, length, set, subst, take}
 use Rattle.std.proofs.lemmas.List.{get_or_default, length-set}
 use Rattle.sheet.specs.Cells.{Cell}
 use Rattle.standings.specs.Rows.{Row}

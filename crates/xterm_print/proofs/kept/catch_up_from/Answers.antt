@@ -1,4 +1,4 @@
-use Rattle.std.proofs.Common.{◌≡◌, ◌+◌, sym, append-nil, arith}
+use Rattle.std.proofs.Common.{sym, append-nil, arith}
 use Rattle.xterm_print.specs.ChangeLines.{is_changed}
 use Rattle.xterm_print.proofs.KeptLemmas.{passing_more}
 use Rattle.xterm_print.proofs.kept.catch_up_from.Goals as goal

@@ -3,7 +3,7 @@ use Rattle.std.proofs.lemmas.List.{length-set}
 use Rattle.sheet.specs.Grid.{row_at}
 use Rattle.xterm_print.specs.ChangeLines.{same_row}
 use Rattle.xterm_print.specs.Kept.{Follows}
-use Rattle.xterm_print.proofs.KeptLemmas.{not_changed, row_read, row_set_other, row_set_same, same_as}
+use Rattle.xterm_print.proofs.KeptLemmas.{row_read, row_set_other, row_set_same, same_as}
 use Rattle.xterm_print.proofs.kept.catch_up_line.Goals as goal
 
 pub returns-clause-whole : goal.returns-clause-whole

@@ -1,4 +1,4 @@
-use Rattle.std.proofs.Common.{◌≡◌, ◌+◌, ◌-◌, ◌<◌, ◌≤◌, ◌∙◌, Bool, ap, ap₂, append-nil, arith, length, not, sym}
+use Rattle.std.proofs.Common.{◌≡◌, ◌+◌, ◌-◌, ◌≤◌, ◌∙◌, ap, ap₂, append-nil, arith, length, not, sym}
 use Rattle.sheet.specs.Grid.{row_at}
 use Rattle.xterm_print.specs.ChangeLines.{same_row}
 use Rattle.xterm_print.proofs.KeptLemmas.{passing_more}

@@ -1,4 +1,4 @@
-use Rattle.std.proofs.Common.{◌<◌, ◌-◌, ◌∙◌, arith, length, subst, sym}
+use Rattle.std.proofs.Common.{◌-◌, ◌∙◌, arith, length, refl, subst, sym}
 use Rattle.std.specs.Prelude.{[]}
 use Rattle.std.proofs.lemmas.Bool.{eqb-false}
 use Rattle.standings.specs.Kept.{EndBy}
@@ -12,7 +12,7 @@ returns-clause-ends c = λ quiet x shows rows places.
     let still = c.args.still.now in
     let above = x.console.picture.line - 1 in
     let before = length (left_of_cursor x) in
-    let ends = subst (λ r. EndBy (length text) r still.places.items above before) rows (c.ends_left.ensures quiet x shows rows) in
+    let ends = subst (λ r. EndBy (length text) r still.places.items above before) rows (c.ends_left.ensures quiet text x refl shows rows places) in
     λ k i low lt fits begun. ends_here text (rows_behind x [] 0) still.places.items above before k i ends places low lt fits begun
 
 pub returns-clause-some : goal.returns-clause-some

@@ -1,5 +1,5 @@
 use Rattle.std.proofs.Common.{arith}
-use Rattle.xterm_print.proofs.PieceLemmas.{one_quiet, unshown_quiet}
+use Rattle.xterm_print.proofs.PieceLemmas.{unshown_quiet}
 use Rattle.xterm_print.proofs.pieces.quiet_piece.Goals as goal
 
 pub returns-then-unshown-gt0-clause-quiet : goal.returns-then-unshown-gt0-clause-quiet

@@ -1,4 +1,4 @@
-use Rattle.std.proofs.Common.{◌≡◌, List, ap, arith, length, not, subst, sym, take_at, ◌∙◌}
+use Rattle.std.proofs.Common.{List, arith, length, subst, sym, take_at, ◌∙◌}
 use Rattle.sheet.specs.Cells.{Cell}
 use Rattle.xterm_print.specs.Same.{Agree}
 use Rattle.xterm_print.proofs.KeptLemmas.{follows_itself}
