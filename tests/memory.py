@@ -5,13 +5,11 @@
 
 Each run has to end with status 0 and the whole output, or with status 3, `typetool: out of memory`, and a beginning of
 the output (the second file of a new pair empty unless the first is whole). The steps begin where the program can be
-started at all. A command that met no refusal fails. Where the system refuses a page of the stack, which begins at a
-random place, the run is tried again, five times in all. The last line is 'N passed, M failed'.
+started at all. A command that met no refusal fails. The last line is 'N passed, M failed'.
 """
 import json
 import os
 import resource
-import signal
 import subprocess
 import sys
 import tempfile
@@ -113,16 +111,6 @@ def is_right(got, files, whole, whole_files):
     return begun and (not timing or script == whole_files[0] and whole_files[1].startswith(timing))
 
 
-def tried(words, folder, limit, stdin):
-    """A run under a limit, again where the stack was refused a page."""
-    for _ in range(5):
-        remove_new(folder)
-        got = run(words, folder, limit, stdin)
-        if got[0] != -signal.SIGSEGV:
-            break
-    return got
-
-
 def refusals(words, stdin, folder, start):
     """How many limits refused the command memory, or None where a run was wrong."""
     remove_new(folder)
@@ -131,7 +119,8 @@ def refusals(words, stdin, folder, start):
     assert whole[0] == 0, whole
     limit, refused = start, 0
     while True:
-        got = tried(words, folder, limit, stdin)
+        remove_new(folder)
+        got = run(words, folder, limit, stdin)
         if not is_right(got, (read(folder, "s2"), read(folder, "t2")), whole, whole_files):
             print(f"FAILED {' '.join(words)} under {limit} bytes: status {got[0]}, {got[2][:200]}")
             return None
