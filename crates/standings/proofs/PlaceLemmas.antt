@@ -1,8 +1,8 @@
 -- Places row by row, and those that stay where only some rows differ.
 use Rattle.std.proofs.Common.{◌≡◌, [], ◌∷◌, cond, true, ℕ, zero, suc, ◌+◌, ◌-◌, ◌<◌, ◌≤◌, List, ◌++◌, append_assoc, append-nil, drop, length, take, refl, ap, ap₂, sym, ◌∙◌, subst, arith, inl, inr}
 use Rattle.std.proofs.lemmas.Bool.{cases_Bool, cases_lt}
-use Rattle.std.proofs.lemmas.List.{drop_all, drop_at, get_or-append-add, get_or_append_left, length-append, take_at}
-use Rattle.standings.specs.Near.{places_part}
+use Rattle.std.proofs.lemmas.List.{drop_all, drop_at, get_or-append-add, get_or-take, get_or_append_left, length-append, length-take, take_at}
+use Rattle.standings.specs.Near.{IsOrdered, places_part}
 use Rattle.standings.specs.Rows.{Row, row_below}
 use Rattle.standings.specs.Spans.{Stays, characters_in, places_along}
 use Rattle.standings.specs.Standing.{begins, line_text, place_at, place_in, places_from, standing}
@@ -106,6 +106,55 @@ along_within text rows (suc n) above =
       to = part_all (λ place. place.above < above + suc n) text above line count 0 (λ i _ _. omega arith);
     })
     (within_more (places_along text rows (above + 1) n) (above + 1) (above + 1 + n) above (above + suc n) (omega arith) (omega arith) (along_within text rows n (above + 1)))
+
+-- so those of rows come in their order
+ordered_both : (a b : List Place) (m : ℕ) → IsOrdered a → AllAre (λ place. place.above ≤ m) a → IsOrdered b → AllAre (λ place. m ≤ place.above) b → IsOrdered (a ++ b)
+ordered_both a b m first low second high = λ i j order lt.
+    let fore = λ (k : ℕ) (is : k < length a). ap (λ (p : Place). p.above) (get_or_append_left a b (place_in 0 0) k is) in
+    let past = λ (k n : ℕ) (is : length a + n ≡ k). ap (λ m. (place_at (a ++ b) m).above) (sym is) ∙ ap (λ (p : Place). p.above) (get_or-append-add a b n (place_in 0 0)) in
+    elim (cases_lt j (length a)) [
+      | inl near ↦
+          omega (arith, fore j near, fore i (omega (arith, near, order)), first i j order near)
+      | inr far ↦
+          let n = j - length a in
+          let there : length a + n ≡ j = omega (arith, far) in
+          let within : n < length b = omega (arith, lt, far, length-append a b) in
+          elim (cases_lt i (length a)) [
+            | inl near ↦
+                omega (arith, past j n there, fore i near, low i near, high n within)
+            | inr also ↦
+                let k = i - length a in
+                let here : length a + k ≡ i = omega (arith, also) in
+                omega (arith, past j n there, past i k here, second k n (omega (arith, order, here, there)) within)
+          ]
+    ]
+
+pub along_ordered : (text : List ℕ) (rows : List Row) (n above : ℕ) → IsOrdered (places_along text rows above n)
+along_ordered text rows zero above = λ i j order lt. absurd (omega (arith, lt))
+along_ordered text rows (suc n) above =
+    let line = line_text (drop above rows) in
+    let count = length (row_below rows above).characters in
+    let low = part_all (λ place. place.above ≤ above) text above line count 0 (λ i _ _. omega arith) in
+    let high = part_all (λ place. above ≤ place.above) text above line count 0 (λ i _ _. omega arith) in
+    ordered_both (places_of text rows above) (places_along text rows (above + 1) n) above
+    (λ i j order lt. omega (arith, low i (omega (arith, order, lt)), high j lt)) low
+    (along_ordered text rows n (above + 1))
+    (λ j lt. omega (arith, (along_within text rows n (above + 1)).from j lt))
+
+pub standing_ordered : (text : List ℕ) (rows : List Row) (places : List Place) → places ≡ standing text rows → IsOrdered places
+standing_ordered text rows places is = subst IsOrdered (sym (is ∙ standing_along text rows)) (along_ordered text rows (length rows) 0)
+
+pub standing_within : (text : List ℕ) (rows : List Row) (places : List Place) → places ≡ standing text rows → IsWithin places 0 (length rows)
+standing_within text rows places is =
+    let all : 0 + length rows ≡ length rows = omega arith in
+    subst (λ l. IsWithin l 0 (length rows)) (sym (is ∙ standing_along text rows)) (subst (IsWithin (places_along text rows 0 (length rows)) 0) all (along_within text rows (length rows) 0))
+
+pub ordered_take : (places : List Place) (n : ℕ) → IsOrdered places → IsOrdered (take n places)
+ordered_take places n ordered = λ i j order lt.
+    let short : j < n = omega (arith, lt, length-take n places) in
+    let within : j < length places = omega (arith, lt, length-take n places) in
+    let same = λ (k : ℕ) (is : k < n). ap (λ (p : Place). p.above) (get_or-take n places k (place_in 0 0) is) in
+    omega (arith, same i (omega (arith, order, short)), same j short, ordered i j order within)
 
 -- a text that begins there has a character in its row
 pub along_fits : (text : List ℕ) (rows : List Row) (n above : ℕ) → AllAre (λ place. place.before < length (row_below rows place.above).characters) (places_along text rows above n)

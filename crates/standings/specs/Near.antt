@@ -17,6 +17,10 @@ IsEarly place above before = (place.above ≤ above) × (place.above ≡ above �
 abbrev pub IsLate : Place → ℕ → ℕ → Type 0
 IsLate place above before = (above ≤ place.above) × (place.above ≡ above → before ≤ place.before)
 
+-- places come in the order of their rows
+abbrev pub IsOrdered : List Place → Type 0
+IsOrdered places = (i j : ℕ) → i ≤ j → j < length places → (place_at places i).above ≤ (place_at places j).above
+
 -- places that stand before a part of a row, in it and behind it
 pub record IsCut (above start end : ℕ) (front middle rest : List Place) : Type 0 where
   pub early : (j : ℕ) → j < length front → IsEarly (place_at front j) above start

@@ -277,15 +277,17 @@ pub fn is_lone(here: &Standing, one: &Standing, at: usize) -> bool
 }
 
 /// Whether a text of so many characters ends, at each place at which it stands, before what is written behind so many
-/// characters of a row: it ends there, or inside a row above, or stands in a row below. They are looked at from the last one
-/// on, since few stand below what is written; those of one character in rows above aren't.
+/// characters of a row: it ends there, or inside a row above, or stands in a row below. Those in rows below aren't looked at,
+/// nor those of one character in rows above.
 pub fn ends_before(still: &Standing, len: usize, above: usize, before: usize) -> bool
     ensures { result ≡ true → (text : List ℕ) → length text ≡ len
         → still.now.places.items ≡ standing text still.now.rows.items
         → EndBy len still.now.rows.items still.now.places.items above before }
 {
-    let ended = count_ended(still.places.as_slice(), len, above);
-    let mut at = still.places.len();
+    let all = still.places.len();
+    let below = count_up_to(still.places.as_slice(), all, above.saturating_add(1));
+    let ended = count_ended(still.places.as_slice(), below, len, above);
+    let mut at = below;
     while at > ended {
         at -= 1;
         if !ends_by(still.rows.as_slice(), still.places[at], len, above, before) {
@@ -311,8 +313,10 @@ fn ends_by(rows: &[Row], place: Place, len: usize, above: usize, before: usize) 
     len <= room && place.before <= room - len
 }
 
-/// How many of the first places at which a text of so many characters stands are in rows above one, where it surely ends.
-fn count_ended(places: &[Place], len: usize, above: usize) -> usize
+/// How many of the first so many places at which a text of so many characters stands are in rows above one, where it surely
+/// ends.
+fn count_ended(places: &[Place], most: usize, len: usize, above: usize) -> usize
+    requires { most ≤ length places.now }
     ensures within { result ≤ length places.now }
     ensures short { 0 < result → len ≤ 1 }
     ensures above { 0 < result → (place_at places.now (result - 1)).above < above }
@@ -320,7 +324,7 @@ fn count_ended(places: &[Place], len: usize, above: usize) -> usize
     if len > 1 {
         return 0;
     }
-    count_up_to(places, places.len(), above)
+    count_up_to(places, most, above)
 }
 
 /// Whether surely nothing of a text that stands there goes where all rows move up by one: none of it begins in the first

@@ -2,12 +2,12 @@
 
 ghost use Rattle.std.specs.Prelude.{◌≡◌, ◌+◌, ◌≤◌, ◌<◌, ◌++◌, ◌-◌, [], false, true, List, ℕ, drop, length, nat_eq, vec_capacity};
 ghost use Rattle.std.specs.List.{starts_with};
-ghost use Rattle.standings.specs.Near.{IsClear, IsCut, IsEarly, IsLate, places_part};
+ghost use Rattle.standings.specs.Near.{IsClear, IsCut, IsEarly, IsLate, IsOrdered, places_part};
 ghost use Rattle.standings.specs.Rows.{Row, row_below};
 ghost use Rattle.standings.specs.Standing.{line_text, place_at, standing};
 ghost use Rattle.standings.specs.Written.{rows_written};
 
-use crate::place::{Place, forget, has_front, has_front_early, put_part, turn};
+use crate::place::{Place, count_up_to, forget, has_front, has_front_early, put_part, turn};
 use crate::row::{Row, characters_below, runs_on_to};
 
 /// Looks again where a text stands that stood at these places, where so many characters were written in a row in which it
@@ -131,7 +131,8 @@ fn look_part(
     requires order { start ≤ end }
     requires within { end ≤ length (row_below rows.now above).characters }
     requires room { length places.old.items + (end - start) ≤ vec_capacity places.old }
-    ensures { (front middle rest : List Place) → places.old.items ≡ front ++ (middle ++ rest)
+    ensures { (front middle rest : List Place) → IsOrdered places.old.items
+        → places.old.items ≡ front ++ (middle ++ rest)
         → IsCut above start end front middle rest
         → places.new.items ≡ front
         ++ (places_part text.now above (line_text (drop above rows.now)) start (end - start) ++ rest) }
@@ -144,14 +145,17 @@ fn look_part(
     turn(places, kept, count);
 }
 
-/// How many places in reading order stand before a character of a row. They are passed from the last one on, since few
-/// stand below what is written.
+/// How many places in reading order stand before a character of a row. Those in the rows below are passed first, and then
+/// those in the row from the last one on.
 fn count_early(places: &[Place], above: usize, before: usize) -> usize
+    requires { above < usize.MAX }
     ensures within { result ≤ length places.now }
     ensures early { 0 < result → IsEarly (place_at places.now (result - 1)) above before }
-    ensures late { (k : ℕ) → result ≤ k → k < length places.now → IsLate (place_at places.now k) above before }
+    ensures late { IsOrdered places.now
+        → (k : ℕ) → result ≤ k → k < length places.now → IsLate (place_at places.now k) above before }
 {
-    let mut count = places.len();
+    let below = count_up_to(places, places.len(), above + 1);
+    let mut count = below;
     while count > 0 && !is_early(places[count - 1], above, before) {
         count -= 1;
     }

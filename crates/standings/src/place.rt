@@ -3,7 +3,7 @@
 ghost use Rattle.std.specs.Prelude.{◌≡◌, ◌≢◌, ◌+◌, ◌≤◌, ◌<◌, ◌++◌, ◌∷◌, ◌-◌, [], false, true, List, ℕ, drop, length, map, nat_eq, slice_index_or, take, vec_capacity, IfOk, OnErr, OnOk};
 ghost use Rattle.std.specs.List.{starts_with};
 ghost use Rattle.standings.specs.Moved.{place_up, spaces_row};
-ghost use Rattle.standings.specs.Near.{places_part};
+ghost use Rattle.standings.specs.Near.{IsOrdered, places_part};
 ghost use Rattle.standings.specs.Room.{fitting};
 ghost use Rattle.standings.specs.Rows.{Row, row_below};
 ghost use Rattle.standings.specs.Spans.{Stays, characters_in, places_along};
@@ -15,6 +15,9 @@ use std::alloc::{AllocError, Global};
 
 // How many characters are passed over at once where a text begins at none of them.
 const BLOCK: usize = 16;
+
+// How many places are passed over at once where the first of them stands in no row above.
+const PLACES: usize = 8;
 
 // Up to how many places there is room for those that come beside those that go.
 const FEW: usize = 1024;
@@ -170,16 +173,31 @@ pub(crate) fn count_above(places: &[Place], above: usize) -> usize
     count
 }
 
-/// How many of the first so many places in reading order stand in rows above one. They are passed from the last one on.
+/// How many of the first so many places in reading order stand in rows above one. They are passed from the last one on,
+/// block by block and then one by one.
 pub(crate) fn count_up_to(places: &[Place], most: usize, above: usize) -> usize
     requires { most ≤ length places.now }
     ensures within { result ≤ most }
     ensures early { 0 < result → (place_at places.now (result - 1)).above < above }
-    ensures late { (k : ℕ) → result ≤ k → k < most → above ≤ (place_at places.now k).above }
+    ensures late { IsOrdered places.now
+        → (k : ℕ) → result ≤ k → k < most → above ≤ (place_at places.now k).above }
 {
-    let mut count = most;
+    let mut count = count_blocks(places, most, above);
     while count > 0 && places[count - 1].above >= above {
         count -= 1;
+    }
+    count
+}
+
+/// The same up to whole blocks of places, each of which begins with one that doesn't.
+fn count_blocks(places: &[Place], most: usize, above: usize) -> usize
+    requires { most ≤ length places.now }
+    ensures within { result ≤ most }
+    ensures ends { result < most → above ≤ (place_at places.now result).above }
+{
+    let mut count = most;
+    while count >= PLACES && places[count - PLACES].above >= above {
+        count -= PLACES;
     }
     count
 }

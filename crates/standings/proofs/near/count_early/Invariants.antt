@@ -1,5 +1,5 @@
 use Rattle.std.proofs.Common.{ℕ, ◌<◌, ◌≤◌, length}
-use Rattle.standings.specs.Near.{IsLate}
+use Rattle.standings.specs.Near.{IsLate, IsOrdered}
 use Rattle.standings.specs.Standing.{place_at}
 use Rattle.standings.proofs.near.count_early.Given as goal
 
@@ -7,7 +7,7 @@ use Rattle.standings.proofs.near.count_early.Given as goal
 abbrev pub invariant-loop-count : goal.invariant-loop-count
 invariant-loop-count l = record {
   within : l.count ≤ length l.places;
-  late : (k : ℕ) → l.count ≤ k → k < length l.places → IsLate (place_at l.places k) l.above l.before;
+  late : IsOrdered l.places → (k : ℕ) → l.count ≤ k → k < length l.places → IsLate (place_at l.places k) l.above l.before;
 }
 
 abbrev pub decreases-loop-count : goal.decreases-loop-count

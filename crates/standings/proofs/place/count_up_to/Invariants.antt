@@ -1,12 +1,12 @@
-use Rattle.std.proofs.Common.{ℕ, ◌<◌, ◌≤◌}
+use Rattle.std.proofs.Common.{◌<◌, ◌≤◌}
 use Rattle.standings.specs.Standing.{place_at}
 use Rattle.standings.proofs.place.count_up_to.Given as goal
 
--- those so far don't
+-- the first of those that were passed doesn't
 abbrev pub invariant-loop-count : goal.invariant-loop-count
 invariant-loop-count l = record {
   within : l.count ≤ l.most;
-  late : (k : ℕ) → l.count ≤ k → k < l.most → l.above ≤ (place_at l.places k).above;
+  ends : l.count < l.most → l.above ≤ (place_at l.places l.count).above;
 }
 
 abbrev pub decreases-loop-count : goal.decreases-loop-count

@@ -3,11 +3,13 @@ use Rattle.std.proofs.lemmas.List.{take_rest}
 use Rattle.std.proofs.lemmas.Result.{IfOk-weaker}
 use Rattle.standings.specs.Lag.{Lags}
 use Rattle.standings.specs.Less.{PairOff}
+use Rattle.standings.specs.Near.{IsOrdered}
 use Rattle.standings.specs.Rows.{row_below}
 use Rattle.standings.specs.Spans.{characters_in}
 use Rattle.standings.specs.Standing.{count_left, place_at}
 use Rattle.standings.specs.declared.alone.Alone.{Alone}
 use Rattle.standings.proofs.CutLemmas.{moved_pairs}
+use Rattle.standings.proofs.PlaceLemmas.{standing_ordered}
 use Rattle.standings.proofs.alone.Alone.of_moved.Goals as goal
 
 pub returns-then-lag-rows : goal.returns-then-lag-rows
@@ -68,5 +70,5 @@ returns c = λ text many was came lags.
     (subst (λ l. gone < length l → lag.moved ≤ (place_at l gone).above) places c.count_above-gone.ensures.ends)
     (omega (arith, c.count_up_to-count.ensures.within, ap length others))
     (subst (λ l. 0 < count → (place_at l (count - 1)).above < start) others c.count_up_to-count.ensures.early)
-    (subst (λ l. (k : ℕ) → count ≤ k → k < length l → start ≤ (place_at l k).above) others c.count_up_to-count.ensures.late)
+    (subst (λ l. (k : ℕ) → count ≤ k → k < length l → start ≤ (place_at l k).above) others (c.count_up_to-count.ensures.late (subst IsOrdered (sym others) (standing_ordered text other.rows.items other.places.items came))))
     within)
