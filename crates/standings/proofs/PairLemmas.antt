@@ -1,7 +1,7 @@
 -- Places of two screens that pair off.
 use Rattle.std.proofs.Common.{◌≡◌, ℕ, suc, ◌+◌, ◌-◌, ◌<◌, ◌≤◌, List, [], ◌∷◌, ◌++◌, drop, length, nat_eq, take, cond, refl, ap, ◌∙◌, arith}
 use Rattle.std.specs.Cmp.Lexicographic.{pointwise}
-use Rattle.std.proofs.lemmas.List.{take_all}
+use Rattle.std.proofs.lemmas.List.{take-take, take_all}
 use Rattle.std.proofs.lemmas.List.Sums.{sum_by-cons}
 use Rattle.standings.specs.Less.{PairOff}
 use Rattle.standings.specs.Rows.{Row, row_below}
@@ -41,6 +41,23 @@ pair_more one other places others n m k alone alones lt lt' same pairs = λ left
       counted one places (n + k) left lt,
       counted other others (m + k) left lt',
       both,
+      pairs left,
+    )
+
+-- the next ones do, as they do by themselves
+pub pair_behind : (one other : List Row) (places others : List Place) (n m k to : ℕ) → n + k ≤ length places → m + k ≤ to
+    → PairOff one (take k (drop n places)) other (take k (take (to - m) (drop m others))) [] []
+    → PairOff one (take (n + k) places) other (take (m + k) others) (take n places) (take m others)
+pair_behind one other places others n m k to low within pairs = λ left.
+    let here : n + k - n ≡ k = omega arith in
+    let there : m + k - m ≡ k = omega arith in
+    omega (
+      arith,
+      count_cut one places n (n + k) left (omega arith),
+      count_cut other others m (m + k) left (omega arith),
+      ap (λ i. count_left one (take i (drop n places)) left) here,
+      ap (λ i. count_left other (take i (drop m others)) left) there,
+      ap (λ l. count_left other l left) (take-take k (to - m) (drop m others) (omega (arith, within))),
       pairs left,
     )
 

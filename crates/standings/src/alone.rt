@@ -1,6 +1,6 @@
 //! Rows of two screens that pair off, and the places of those that stand alone.
 
-ghost use Rattle.std.specs.Prelude.{◌≡◌, ◌+◌, ◌-◌, ◌<◌, ◌≤◌, true, List, ℕ, [], drop, length, take, IfOk};
+ghost use Rattle.std.specs.Prelude.{◌≡◌, ◌+◌, ◌++◌, ◌-◌, ◌<◌, ◌≤◌, true, List, ℕ, [], drop, length, take, IfOk, OnOk};
 ghost use Rattle.standings.specs.Lag.{Lags};
 ghost use Rattle.standings.specs.Less.{Agree, PairOff};
 ghost use Rattle.standings.specs.Rows.{Row, row_below};
@@ -104,15 +104,11 @@ impl Alone {
         let (mut at, mut there) = (begun, begun);
         while there < others.len() {
             let pair = next_pair(one, places, at, other, others, there, lag);
-            if pair.count == 0 {
-                let end = row_end(others, there);
-                alone.other.extend_from_slice(&others[there..end])?;
-                there = end;
-            } else {
-                alone.one.extend_from_slice(&places[at..pair.at])?;
-                at = pair.at + pair.count;
-                there += pair.count;
-            }
+            let seen = there + pair.count;
+            push_some(&mut alone.one, &places[at..pair.at])?;
+            push_some(&mut alone.other, &others[seen..pair.end])?;
+            at = pair.at + pair.count;
+            there = pair.end;
         }
         alone.one.extend_from_slice(&places[at..])?;
         Ok(alone)
@@ -196,15 +192,30 @@ impl Cut {
     }
 }
 
-/// So many places of a screen, from one on, that pair off with as many of another.
+/// Puts some places behind others; mostly there are none.
+#[inline(always)]
+fn push_some(places: &mut Vec<Place>, more: &[Place]) -> Result<(), AllocError>
+    ensures { OnOk result (places.new.items ≡ places.old.items ++ more.now) }
+{
+    if more.is_empty() {
+        return Ok(());
+    }
+    places.extend_from_slice(more)?;
+    Ok(())
+}
+
+/// So many places of a screen, from one on, that pair off with as many of another; the further ones of that up to one stand
+/// alone.
 #[derive(Clone, Copy)]
 struct Pair {
     at: usize,
     count: usize,
+    end: usize,
 }
 
-/// The next places of a screen, from one on, that pair off with those of another one's row; none where no row does. The one
-/// lags so behind the other: a row that surely stays pairs off with itself, and is looked for no further.
+/// The next places of a screen, from one on, that pair off with those of another one's row; where no row does, those of the
+/// row that came there, as far as it begins alike. The one lags so behind the other: a row that surely stays pairs off with
+/// itself, and is looked for no further.
 fn next_pair(
     one: &[Row],
     places: &[Place],
@@ -218,24 +229,92 @@ fn next_pair(
     requires there { there < length others.now }
     ensures low { from ≤ result.at }
     ensures within { result.at + result.count ≤ length places.now }
-    ensures there { there + result.count ≤ length others.now }
+    ensures order { there + result.count ≤ result.end }
+    ensures further { there < result.end }
+    ensures there { result.end ≤ length others.now }
     ensures pairs { Lags lag one.now other.now → PairOff one.now (take (result.at + result.count) places.now)
         other.now (take (there + result.count) others.now) (take result.at places.now) (take there others.now) }
 {
-    let end = lag.search_end(others[there].above);
+    let (end, before) = (lag.search_end(others[there].above), others[there].before);
     let mut at = from;
     while at < places.len() && places[at].above < end {
-        let kept = count_kept(one, places, at, other, others, there, lag);
-        if kept > 0 {
-            return Pair { at, count: kept };
+        if places[at].before == before {
+            let count = count_alike(one, places, at, other, others, there, lag);
+            if count > 0 {
+                let end = there + count;
+                return Pair { at, count, end };
+            }
         }
-        let count = count_paired(one, places, at, other, others, there);
-        if count > 0 {
-            return Pair { at, count };
-        }
-        at = row_end(places, at);
+        at += 1;
     }
-    Pair { at, count: 0 }
+    next_front(one, places, from, other, others, there, lag)
+}
+
+/// How many places of two screens, from these on, pair off since they stand in rows that surely stay where the one lags so
+/// behind the other, or else in rows of the same characters.
+fn count_alike(
+    one: &[Row],
+    places: &[Place],
+    at: usize,
+    other: &[Row],
+    others: &[Place],
+    there: usize,
+    lag: Lag,
+) -> usize
+    requires within { at < length places.now }
+    requires there { there < length others.now }
+    ensures within { at + result ≤ length places.now }
+    ensures there { there + result ≤ length others.now }
+    ensures pairs { Lags lag one.now other.now → PairOff one.now (take (at + result) places.now)
+        other.now (take (there + result) others.now) (take at places.now) (take there others.now) }
+{
+    let kept = count_kept(one, places, at, other, others, there, lag);
+    if kept > 0 {
+        return kept;
+    }
+    count_paired(one, places, at, other, others, there)
+}
+
+/// The next places of a screen, from one on, that pair off with the first ones of another one's row, since the row that came
+/// there where the one lags so begins alike; the others of that row stand alone. Where one row alone may differ, none do.
+fn next_front(
+    one: &[Row],
+    places: &[Place],
+    from: usize,
+    other: &[Row],
+    others: &[Place],
+    there: usize,
+    lag: Lag,
+) -> Pair
+    requires within { from ≤ length places.now }
+    requires there { there < length others.now }
+    ensures low { from ≤ result.at }
+    ensures within { result.at + result.count ≤ length places.now }
+    ensures order { there + result.count ≤ result.end }
+    ensures further { there < result.end }
+    ensures there { result.end ≤ length others.now }
+    ensures pairs { PairOff one.now (take (result.at + result.count) places.now)
+        other.now (take (there + result.count) others.now) (take result.at places.now) (take there others.now) }
+{
+    let end = row_end(others, there);
+    let none = Pair {
+        at: from,
+        count: 0,
+        end,
+    };
+    if is_one_row(lag) {
+        return none;
+    }
+    let row = others[there].above.saturating_add(lag.moved);
+    let at = from + count_above(&places[from..], row);
+    if at == places.len() || places[at].above != row || places[at].before != others[there].before {
+        return none;
+    }
+    let count = count_agreed(one, &places[at..], other, &others[there..end]);
+    if count == 0 {
+        return none;
+    }
+    Pair { at, count, end }
 }
 
 /// How many places of two screens, of which the one lags so behind the other, from these on, pair off since they stand in
@@ -276,8 +355,19 @@ fn count_begun(one: &[Row], places: &[Place], other: &[Row], others: &[Place], l
     if !is_one_row(lag) || !begin_alike(places, others) {
         return 0;
     }
-    let above = lag.span.from;
-    let mut agreed = AgreedRows::of(one, above, other, above);
+    count_agreed(one, places, other, others)
+}
+
+/// How many of the first places of two screens pair off, since they have the same to the left.
+#[inline(always)]
+fn count_agreed(one: &[Row], places: &[Place], other: &[Row], others: &[Place]) -> usize
+    requires some { 0 < length places.now }
+    requires there { 0 < length others.now }
+    ensures within { result ≤ length places.now }
+    ensures there { result ≤ length others.now }
+    ensures pairs { PairOff one.now (take result places.now) other.now (take result others.now) [] [] }
+{
+    let mut agreed = AgreedRows::of(one, places[0].above, other, others[0].above);
     let most = places.len().min(others.len());
     let mut count = 0;
     while count < most {
@@ -295,7 +385,10 @@ fn is_one_row(lag: Lag) -> bool {
 }
 
 /// Whether the first of some places and of others are the same.
-fn begin_alike(places: &[Place], others: &[Place]) -> bool {
+fn begin_alike(places: &[Place], others: &[Place]) -> bool
+    ensures some { result ≡ true → 0 < length places.now }
+    ensures there { result ≡ true → 0 < length others.now }
+{
     !places.is_empty()
         && !others.is_empty()
         && places[0].above == others[0].above
@@ -373,7 +466,8 @@ fn keeps_all(rows: &[Row], places: &[Place], others: &[Row], mates: &[Place]) ->
     if places.is_empty() {
         return true;
     }
-    let mut agreed = AgreedRows::of(rows, 0, others, 0);
+    // Nothing is compared yet: no row is behind the last one.
+    let mut agreed = AgreedRows::of(rows, rows.len(), others, others.len());
     let mut kept = 0;
     let mut at = 0;
     while kept < places.len() && places.len() - kept <= mates.len() - at {

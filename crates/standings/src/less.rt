@@ -170,6 +170,9 @@ fn next_told(told: &[bool], from: usize) -> usize
     ensures within { from ≤ length told.now → result ≤ length told.now }
     ensures none { (n : ℕ) → from ≤ n → n < result → slice_index_or told.now n false ≡ false }
 {
+    if from < told.len() && told[from] {
+        return from;
+    }
     let mut at = past_untold(told, from);
     while at < told.len() && !told[at] {
         at += 1;

@@ -1,6 +1,6 @@
 //! How what is found is written.
 
-ghost use Rattle.std.specs.Prelude.{◌≡◌, ◌+◌, ◌==◌, ◌≤◌, ◌++◌, ◌∷◌, [], List, decimal, encode_utf8, drop, length, true, IfOk, OnOk, OnErr};
+ghost use Rattle.std.specs.Prelude.{◌≡◌, ◌+◌, ◌==◌, ◌<◌, ◌≤◌, ◌++◌, ◌∷◌, [], List, ℕ, decimal, encode_utf8, drop, length, slice_index_or, take, true, IfOk, OnOk, OnErr};
 ghost use Rattle.std.specs.List.{flat_map, suffix_len};
 ghost use Rattle.held.specs.Held.{Wrote};
 ghost use Rattle.tape_core.specs.Devices.{Gave};
@@ -346,11 +346,36 @@ fn found_rows(
 fn unspaced_len(chars: &[char]) -> usize
     ensures { result + suffix_len (λ c. c == 32) chars.now ≡ length chars.now }
 {
-    let mut len = chars.len();
+    let mut len = unspaced_blocks(chars);
     while len > 0 && chars[len - 1] == ' ' {
         len -= 1;
     }
     len
+}
+
+/// The same up to whole blocks of spaces.
+fn unspaced_blocks(chars: &[char]) -> usize
+    ensures within { result ≤ length chars.now }
+    ensures spaces { result + suffix_len (λ c. c == 32) chars.now
+        ≡ length chars.now + suffix_len (λ c. c == 32) (take result chars.now) }
+{
+    let mut len = chars.len();
+    while len >= TOGETHER && are_spaces(&chars[len - TOGETHER..len]) {
+        len -= TOGETHER;
+    }
+    len
+}
+
+/// Whether all of some characters are spaces. It goes over all of them with no way out, since that is done many at a time.
+#[inline(always)]
+fn are_spaces(chars: &[char]) -> bool
+    ensures { result ≡ true → (k : ℕ) → k < length chars.now → slice_index_or chars.now k 0 ≡ 32 }
+{
+    let mut all = true;
+    for character in chars {
+        all &= *character == ' ';
+    }
+    all
 }
 
 /// The rows below so many others that together have so many characters.

@@ -154,8 +154,11 @@ fn count_early(places: &[Place], above: usize, before: usize) -> usize
     ensures late { IsOrdered places.now
         → (k : ℕ) → result ≤ k → k < length places.now → IsLate (place_at places.now k) above before }
 {
-    let below = count_up_to(places, places.len(), above + 1);
-    let mut count = below;
+    let all = places.len();
+    if all == 0 || is_early(places[all - 1], above, before) {
+        return all;
+    }
+    let mut count = count_up_to(places, all, above + 1);
     while count > 0 && !is_early(places[count - 1], above, before) {
         count -= 1;
     }

@@ -1,7 +1,7 @@
 use Rattle.std.proofs.Common.{◌-◌, ◌≤◌, [], take}
 use Rattle.standings.specs.Less.{Agree, PairOff}
 use Rattle.standings.specs.Rows.{row_below}
-use Rattle.standings.proofs.alone.count_begun.Given as goal
+use Rattle.standings.proofs.alone.count_agreed.Given as goal
 
 -- those so far pair off
 abbrev pub invariant-loop-count : goal.invariant-loop-count

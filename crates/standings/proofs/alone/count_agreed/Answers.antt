@@ -2,7 +2,7 @@ use Rattle.std.proofs.Common.{◌≡◌, ◌+◌, [], arith, subst, sym, take}
 use Rattle.standings.specs.Less.{PairOff}
 use Rattle.standings.specs.Standing.{left_of, place_at}
 use Rattle.standings.proofs.PairLemmas.{pair_more}
-use Rattle.standings.proofs.alone.count_begun.Goals as goal
+use Rattle.standings.proofs.alone.count_agreed.Goals as goal
 
 pub loop-count-preserved : goal.loop-count-preserved
 loop-count-preserved c =
