@@ -96,12 +96,14 @@ impl Alone {
         ensures { Lags lag one.now other.now
             → IfOk result (λ alone. PairOff one.now places.now other.now others.now alone.one.items alone.other.items) }
     {
+        if is_one_row(lag) {
+            return Alone::of_row(alloc, one, places, other, others);
+        }
         let mut alone = Alone {
             one: Vec::new(alloc),
             other: Vec::new(alloc),
         };
-        let begun = count_begun(one, places, other, others, lag);
-        let (mut at, mut there) = (begun, begun);
+        let (mut at, mut there) = (0, 0);
         while there < others.len() {
             let pair = next_pair(one, places, at, other, others, there, lag);
             let seen = there + pair.count;
@@ -112,6 +114,23 @@ impl Alone {
         }
         alone.one.extend_from_slice(&places[at..])?;
         Ok(alone)
+    }
+
+    /// The same where one row alone may differ: mostly it begins alike on both, and the further places stand alone.
+    fn of_row(
+        alloc: Global,
+        one: &[Row],
+        places: &[Place],
+        other: &[Row],
+        others: &[Place],
+    ) -> Result<Self, AllocError>
+        ensures { IfOk result (λ alone. PairOff one.now places.now other.now others.now alone.one.items alone.other.items) }
+    {
+        let count = count_begun(one, places, other, others);
+        Ok(Alone {
+            one: Vec::from_slice(alloc, &places[count..])?,
+            other: Vec::from_slice(alloc, &others[count..])?,
+        })
     }
 
     /// Those of the other one and the one.
@@ -276,7 +295,7 @@ fn count_alike(
 }
 
 /// The next places of a screen, from one on, that pair off with the first ones of another one's row, since the row that came
-/// there where the one lags so begins alike; the others of that row stand alone. Where one row alone may differ, none do.
+/// there where the one lags so begins alike; the others of that row stand alone.
 fn next_front(
     one: &[Row],
     places: &[Place],
@@ -302,9 +321,6 @@ fn next_front(
         count: 0,
         end,
     };
-    if is_one_row(lag) {
-        return none;
-    }
     let row = others[there].above.saturating_add(lag.moved);
     let at = from + count_above(&places[from..], row);
     if at == places.len() || places[at].above != row || places[at].before != others[there].before {
@@ -346,13 +362,13 @@ fn count_kept(
     count
 }
 
-/// How many of the first places of two screens pair off, since a row that alone may differ begins alike with them.
-fn count_begun(one: &[Row], places: &[Place], other: &[Row], others: &[Place], lag: Lag) -> usize
+/// How many of the first places of two screens pair off, where the first two stand in a row that begins alike.
+fn count_begun(one: &[Row], places: &[Place], other: &[Row], others: &[Place]) -> usize
     ensures within { result ≤ length places.now }
     ensures there { result ≤ length others.now }
     ensures pairs { PairOff one.now (take result places.now) other.now (take result others.now) [] [] }
 {
-    if !is_one_row(lag) || !begin_alike(places, others) {
+    if !begin_alike(places, others) {
         return 0;
     }
     count_agreed(one, places, other, others)

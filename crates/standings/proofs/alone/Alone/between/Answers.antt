@@ -7,11 +7,10 @@ use Rattle.standings.proofs.alone.Alone.between.Goals as goal
 
 pub loop-there-init : goal.loop-there-init
 loop-there-init c = record {
-  within = c.count_begun-begun.ensures.within;
-  there = c.count_begun-begun.ensures.there;
+  within = omega arith;
+  there = omega arith;
   pairs = λ lags. λ left. omega (
     arith,
-    c.count_begun-begun.ensures.pairs left,
     ap (λ l. count_left c.args.one.now l left) c.new.ensures.items,
     ap (λ l. count_left c.args.other.now l left) c.new-2.ensures.items,
   );
