@@ -12,6 +12,7 @@ mod place;
 mod region;
 mod row;
 mod span;
+mod surplus;
 
 pub use alone::Alone;
 pub use lag::Lag;

@@ -1,4 +1,4 @@
-use Rattle.std.proofs.Common.{ℕ, ◌+◌, ◌<◌, ◌≤◌, length}
+use Rattle.std.proofs.Common.{ℕ, ◌+◌, ◌<◌, ◌≤◌}
 use Rattle.standings.specs.Kept.{room_in}
 use Rattle.standings.specs.Standing.{place_at}
 use Rattle.standings.proofs.left.ends_before.Given as goal

@@ -1,4 +1,4 @@
-use Rattle.std.proofs.Common.{◌-◌, ◌+◌, ◌<◌, ◌≡◌, ◌==◌, ◌∙◌, ap, arith, drop, length, slice_index_or, sym, take}
+use Rattle.std.proofs.Common.{◌-◌, ◌+◌, ◌≡◌, ◌==◌, ◌∙◌, ap, arith, drop, length, sym, take}
 use Rattle.std.specs.List.{suffix_len}
 use Rattle.std.proofs.lemmas.List.{get_or-drop, get_or-take, length-drop, length-take}
 use Rattle.standings.proofs.SpeltLemmas.{spaces_passed}

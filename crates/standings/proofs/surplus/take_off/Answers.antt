@@ -4,8 +4,8 @@ use Rattle.standings.specs.Less.{for_left}
 use Rattle.standings.specs.Standing.{count_left, left_of, place_at}
 use Rattle.standings.proofs.LeftLemmas.{front_fits}
 use Rattle.standings.proofs.SurplusLemmas.{none_off, none_still, take_more_off, take_spent_off}
-use Rattle.standings.proofs.less.take_off.Goals as goal
-use Rattle.standings.proofs.less.take_off.Goals.{in-Some, in_default}
+use Rattle.standings.proofs.surplus.take_off.Goals as goal
+use Rattle.standings.proofs.surplus.take_off.Goals.{in-Some, in_default}
 
 pub loop-place-preserved : goal.loop-place-preserved
 loop-place-preserved c =

@@ -7,7 +7,7 @@ use Rattle.standings.specs.Standing.{left_of, place_at, place_in}
 use Rattle.standings.specs.declared.place.Place.{Place}
 use Rattle.standings.proofs.LeftLemmas.{front_fits}
 use Rattle.standings.proofs.SurplusLemmas.{is_told, last_off, last_spent, none_last, none_long, none_still, none_told, not_told, told_more, told_same}
-use Rattle.standings.proofs.less.tell_last.Goals as goal
+use Rattle.standings.proofs.surplus.tell_last.Goals as goal
 
 pub returns-then-least-row : goal.returns-then-least-row
 returns-then-least-row c = λ n lt.

@@ -1,5 +1,5 @@
 use Rattle.std.proofs.Common.{◌≡◌, ℕ, ◌<◌, false, length, slice_index_or, true}
-use Rattle.standings.proofs.less.is_spent.Given as goal
+use Rattle.standings.proofs.surplus.is_spent.Given as goal
 
 -- none of those so far has one, or some has
 abbrev pub invariant-loop-count : goal.invariant-loop-count

@@ -1,10 +1,10 @@
 use Rattle.std.proofs.Common.{ap, arith, length, subst, sym}
 use Rattle.standings.specs.Less.{Agree}
 use Rattle.standings.specs.Rows.{row_below}
-use Rattle.standings.specs.declared.less.Agreed.{Agreed}
+use Rattle.standings.specs.declared.surplus.Agreed.{Agreed}
 use Rattle.standings.proofs.LeftLemmas.{front_agreed, no_front}
-use Rattle.standings.proofs.less.Agreed.len_left.Goals as goal
-use Rattle.standings.proofs.less.Agreed.len_left.Goals.{then-place-self, else-place-self}
+use Rattle.standings.proofs.surplus.Agreed.len_left.Goals as goal
+use Rattle.standings.proofs.surplus.Agreed.len_left.Goals.{then-place-self, else-place-self}
 
 pub returns-then-len-self-clause-some : goal.returns-then-len-self-clause-some
 returns-then-len-self-clause-some c =

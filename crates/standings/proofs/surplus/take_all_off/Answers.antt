@@ -2,7 +2,7 @@ use Rattle.std.proofs.Common.{◌≡◌, ◌<◌, ℕ, arith, false, length, nat
 use Rattle.std.specs.List.{starts_with}
 use Rattle.standings.specs.Rows.{row_below}
 use Rattle.standings.proofs.SurplusLemmas.{none_here, none_long}
-use Rattle.standings.proofs.less.take_all_off.Goals as goal
+use Rattle.standings.proofs.surplus.take_all_off.Goals as goal
 
 pub returns-then-least-row : goal.returns-then-least-row
 returns-then-least-row c = λ left begins.

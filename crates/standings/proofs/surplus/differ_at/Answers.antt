@@ -3,7 +3,7 @@ use Rattle.std.specs.List.{starts_with}
 use Rattle.std.proofs.lemmas.Bool.{cases_Bool, eq-eqb, false≢true}
 use Rattle.std.proofs.lemmas.List.{get_or_read}
 use Rattle.standings.proofs.FrontLemmas.{has_text}
-use Rattle.standings.proofs.less.differ_at.Goals as goal
+use Rattle.standings.proofs.surplus.differ_at.Goals as goal
 
 pub returns : goal.returns
 returns c = λ told.

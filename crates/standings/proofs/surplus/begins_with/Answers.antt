@@ -2,7 +2,7 @@ use Rattle.std.proofs.Common.{arith, inl, inr, nat_eq, sym}
 use Rattle.std.specs.List.{starts_with}
 use Rattle.std.proofs.lemmas.Bool.{cases_Bool}
 use Rattle.standings.proofs.FrontLemmas.{fits_text}
-use Rattle.standings.proofs.less.begins_with.Goals as goal
+use Rattle.standings.proofs.surplus.begins_with.Goals as goal
 
 pub returns-then-last-characters : goal.returns-then-last-characters
 returns-then-last-characters c =

@@ -2,7 +2,7 @@ use Rattle.std.proofs.Common.{◌≡◌, ap, ap₂, arith, drop, length}
 use Rattle.std.proofs.lemmas.List.{take_at}
 use Rattle.standings.specs.Less.{for_left}
 use Rattle.standings.specs.Standing.{count_left}
-use Rattle.standings.proofs.less.find_surplus.Goals as goal
+use Rattle.standings.proofs.surplus.find_surplus.Goals as goal
 
 pub returns-clause-surplus : goal.returns-clause-surplus
 returns-clause-surplus c = λ left begins.

@@ -1,5 +1,5 @@
 use Rattle.std.proofs.Common.{◌≡◌, ℕ, ◌-◌, ◌<◌, ◌≤◌, length, slice_index_or}
-use Rattle.standings.proofs.less.least_len.Given as goal
+use Rattle.standings.proofs.surplus.spent_blocks.Given as goal
 
 -- those so far have none
 abbrev pub invariant-loop-len : goal.invariant-loop-len

@@ -1,7 +1,7 @@
 use Rattle.std.proofs.Common.{◌≡◌, ℕ, ◌<◌, false, nat_eq}
 use Rattle.std.specs.List.{starts_with}
 use Rattle.standings.specs.Rows.{row_below}
-use Rattle.standings.proofs.less.some_begins.Given as goal
+use Rattle.standings.proofs.surplus.some_begins.Given as goal
 
 -- none of those so far does
 abbrev pub invariant-loop-row : goal.invariant-loop-row

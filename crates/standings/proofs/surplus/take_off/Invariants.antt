@@ -3,7 +3,7 @@ use Rattle.std.specs.List.{starts_with}
 use Rattle.standings.specs.Less.{Agree, for_left}
 use Rattle.standings.specs.Rows.{row_below}
 use Rattle.standings.specs.Standing.{count_left}
-use Rattle.standings.proofs.less.take_off.Given as goal
+use Rattle.standings.proofs.surplus.take_off.Given as goal
 
 -- it was taken off for those so far
 abbrev pub invariant-loop-place : goal.invariant-loop-place

@@ -1,7 +1,7 @@
 use Rattle.std.proofs.Common.{◌+◌, ◌-◌, arith, inl, inr}
 use Rattle.std.proofs.lemmas.Bool.{cases_lt}
 use Rattle.standings.proofs.SurplusLemmas.{none_block}
-use Rattle.standings.proofs.less.spent_blocks.Goals as goal
+use Rattle.standings.proofs.surplus.spent_blocks.Goals as goal
 
 pub loop-len-preserved : goal.loop-len-preserved
 loop-len-preserved c =

@@ -4,8 +4,8 @@ use Rattle.standings.specs.Less.{for_left}
 use Rattle.standings.specs.Standing.{count_left, left_of, place_at}
 use Rattle.standings.proofs.LeftLemmas.{front_fits}
 use Rattle.standings.proofs.SurplusLemmas.{count_more, count_same}
-use Rattle.standings.proofs.less.count_lefts.Goals as goal
-use Rattle.standings.proofs.less.count_lefts.Goals.{in-Some, in_default}
+use Rattle.standings.proofs.surplus.count_lefts.Goals as goal
+use Rattle.standings.proofs.surplus.count_lefts.Goals.{in-Some, in_default}
 
 pub loop-place-preserved : goal.loop-place-preserved
 loop-place-preserved c =

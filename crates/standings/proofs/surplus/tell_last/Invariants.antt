@@ -3,7 +3,7 @@ use Rattle.std.specs.List.{starts_with}
 use Rattle.standings.specs.Less.{Agree, for_left, is_last}
 use Rattle.standings.specs.Rows.{row_below}
 use Rattle.standings.specs.Standing.{count_left}
-use Rattle.standings.proofs.less.tell_last.Given as goal
+use Rattle.standings.proofs.surplus.tell_last.Given as goal
 
 -- it was told of those behind so many
 abbrev pub invariant-loop-at : goal.invariant-loop-at
