@@ -219,9 +219,18 @@ pub(crate) fn turn(places: &mut Vec<Place>, from: usize, count: usize)
     ensures { places.new.items ≡ take from places.old.items
         ++ (drop count (drop from places.old.items) ++ take count (drop from places.old.items)) }
 {
-    if count > 0 {
-        places.as_mut_slice()[from..].rotate_left(count);
-    }
+    turn_about(&mut places.as_mut_slice()[from..], count);
+}
+
+/// The first so many places come last. Three turns about do it: `rotate_left` fills 4 KB of the stack with zeros first.
+fn turn_about(places: &mut [Place], count: usize)
+    requires { count ≤ length places.old }
+    ensures { places.new ≡ drop count places.old ++ take count places.old }
+{
+    let (front, behind) = places.split_at_mut(count);
+    front.reverse();
+    behind.reverse();
+    places.reverse();
 }
 
 /// Whether a text may have come to stand, where it stood nowhere, by a change of these rows: whether it begins in one of
