@@ -1,12 +1,14 @@
 //! Bytes that write characters of one column over plain cells, with sequences between them that select renditions.
 
-ghost use Rattle.std.specs.Prelude.{◌≡◌, ◌+◌, ◌-◌, ◌%◌, ◌<◌, ◌≤◌, ◌++◌, List, ℕ, Some, length, slice_index_or, take, true, false};
+ghost use Rattle.std.specs.Prelude.{◌≡◌, ◌+◌, ◌-◌, ◌%◌, ◌<◌, ◌≤◌, ◌++◌, ◌∷◌, [], IfSome, List, ℕ, Some, drop, length, slice_index_or, take, true, false};
 ghost use Rattle.xterm_rows.specs.Runs.{cell_behind};
 ghost use Rattle.xterm_term.specs.Ahead.{Letters, WritesStyled, letters_from, styling_behind};
 ghost use Rattle.xterm_term.specs.Seen.{Shows};
 ghost use Rattle.xterm_term.specs.Term.{Term};
+ghost use Rattle.xterm_term.specs.declared.sets.CharacterSet.TheVariants.{Ascii};
 ghost use Rattle.xterm_print.specs.Pieces.{AreApart, AreFollowers, EndsLeft, GoOver, IsPlain, StaysOn, WritesOver};
 
+use characters::laws::widths_are_small;
 use sheet::Cell;
 use text_find::{LETTERS, LetterRun};
 use xterm_term::{CharacterSet, Terminal, letter_at, styling_at};
@@ -148,17 +150,33 @@ fn graphics_on(
     }
     followers.make(text);
     let mut taken = 0;
-    while taken < bytes.len() && matches!(bytes[taken], 32..=126) {
+    while let Some(character) = graphic_at(bytes, taken) {
         if !may_follow(cells, followers, letters.len()) {
             return taken;
         }
-        let Some(letter) = letter_at(set, &bytes[taken..]) else {
-            return taken;
-        };
-        letters.push(letter.character);
-        taken += letter.taken;
+        letters.push(character);
+        taken += 1;
     }
     taken
+}
+
+/// The graphic character of ASCII at a place of the bytes, if there is one there. It takes one column.
+#[inline(always)]
+fn graphic_at(bytes: &[u8], at: usize) -> Option<char>
+    ensures within { IfSome result (λ _. at < length bytes.now) }
+    ensures styled { IfSome result (λ _. styling_behind Ascii Letters (take 1 (drop at bytes.now)) ≡ Some Letters) }
+    ensures letters { IfSome result (λ character.
+        letters_from Ascii Letters (take 1 (drop at bytes.now)) ≡ character ∷ []) }
+{
+    widths_are_small();
+    if at >= bytes.len() {
+        return None;
+    }
+    let byte = bytes[at];
+    if byte < b' ' || byte > b'~' {
+        return None;
+    }
+    Some(byte as char)
 }
 
 /// Whether a character more may be put behind so many others, whatever they are, as the marks tell.
