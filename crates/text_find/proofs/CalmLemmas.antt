@@ -1,9 +1,11 @@
 -- Chunks inside which nothing of a text passes, and screens that trail.
-use Rattle.std.proofs.Common.{◌≡◌, ℕ, ◌+◌, ◌-◌, ◌<◌, ◌≤◌, List, [], ◌++◌, append-nil, drop, length, take, refl, ap, ap₂, subst, sym, ◌∙◌, arith, inl, inr}
+use Rattle.std.proofs.Common.{◌≡◌, ℕ, zero, suc, ◌+◌, ◌-◌, ◌<◌, ◌≤◌, List, [], ◌++◌, append-nil, drop, length, length-drop, take, refl, ap, ap₂, subst, sym, ◌∙◌, arith, inl, inr}
 use Rattle.std.specs.List.{flat_map, range_with_len}
 use Rattle.std.proofs.lemmas.Bool.{cases_lt}
+use Rattle.std.proofs.lemmas.List.Concat.{flat_map-append}
+use Rattle.chunk_walk.proofs.TextLemmas.{range_split, texts_from}
 use Rattle.tape_core.specs.declared.chunk.Chunk.{Chunk}
-use Rattle.tape_core.specs.Due.{first}
+use Rattle.tape_core.specs.Due.{bytes_at, first}
 use Rattle.standings.specs.Kept.{Keeps}
 use Rattle.standings.specs.Lag.{Lags}
 use Rattle.standings.specs.Moved.{moved_up}
@@ -16,7 +18,7 @@ use Rattle.standings.specs.declared.place.Place.{Place}
 use Rattle.standings.specs.declared.span.Span.{Span}
 use Rattle.text_find.specs.declared.behind.Steps.{Steps}
 use Rattle.text_find.specs.declared.sides.Sides.{Sides}
-use Rattle.text_find.specs.Calm.{IsAhead, IsCalm, NonePass}
+use Rattle.text_find.specs.Calm.{HasStood, IsAhead, IsCalm, IsInside, NonePass}
 use Rattle.text_find.specs.FindLines.{Screens, rows_within}
 use Rattle.text_find.specs.Foretold.{IsForetold}
 use Rattle.text_find.specs.declared.foretold.Foretold.TheVariants.{MovesUp}
@@ -117,6 +119,13 @@ calm_more text screen before bytes at taken calm none = λ index due last lasts.
     ∙ none index due last lasts n (omega (arith, low, high)))
     ∙ calm index due last lasts
 
+-- nor at no byte
+pub stood_none : (text : List ℕ) (screen : List ℕ → List Row) (before bytes : List ℕ) (still : Standing) → HasStood text screen before bytes 0 still
+stood_none text screen before bytes still = record {
+  calm = λ index due last lasts. refl;
+  still = λ lt. absurd (omega (arith, lt));
+}
+
 -- a piece more was played
 pub ahead_more : {P T : Type 0} (shows : P → T → List ℕ → Type 0) (screens : Screens P) (profile : P) (text before bytes : List ℕ) (taken piece : ℕ) (ahead : T) (ends : Sides)
     → shows profile ahead ((before ++ take taken bytes) ++ take piece (drop taken bytes))
@@ -142,6 +151,51 @@ calm_lines text index due len screen before bytes one other l is is' calm =
     ap (inside one.rows.items) is.places ∙ ap (λ r. inside r (standing text (screen before))) is.rows ∙ calm index due other.rows.items other.places.items in
     sym (ap (λ l. (went ++ l) ++ came) none ∙ ap (λ l. l ++ came) (append-nil went))
     ∙ chunk_in_three text index due len screen before bytes one other l is is'
+
+-- the lines of later bytes, by their places among all
+texts_later : (f g : ℕ → List ℕ) (at start n : ℕ) → ((k : ℕ) → g k ≡ f (at + k)) → texts_from g start n ≡ texts_from f (at + start) n
+texts_later f g at start zero same = refl
+texts_later f g at start (suc n) same =
+    let next : at + (start + 1) ≡ at + start + 1 = omega arith in
+    ap₂ (λ a b. a ++ b) (same start) (texts_later f g at (start + 1) n same ∙ ap (λ b. texts_from f b n) next)
+
+-- those of the bytes behind the first ones, at which nothing passes, are those of all
+rest_lines : (text : List ℕ) (index due : ℕ) (screen : List ℕ → List Row) (before bytes : List ℕ) (start : ℕ) (last : List Row) (lasts : List Place) → start ≤ length bytes
+    → IsCalm text screen before bytes start
+    → texts_from (byte_lines text index due (screen before) (standing text (screen before)) last lasts screen (before ++ take start bytes) (drop start bytes)) 0 (length (drop start bytes))
+    ≡ texts_from (byte_lines text index due (screen before) (standing text (screen before)) last lasts screen before bytes) 0 (length bytes)
+rest_lines text index due screen before bytes start last lasts within calm =
+    let f = byte_lines text index due (screen before) (standing text (screen before)) last lasts screen before bytes in
+    let g = byte_lines text index due (screen before) (standing text (screen before)) last lasts screen (before ++ take start bytes) (drop start bytes) in
+    let n = length (drop start bytes) in
+    let same : (k : ℕ) → g k ≡ f (start + k) = λ k.
+    let next : start + (k + 1) ≡ start + k + 1 = omega arith in
+    ap₂ (passing text index due (screen before) (standing text (screen before)) last lasts) (there screen before bytes start k)
+    (there screen before bytes start (k + 1) ∙ ap (rows_within screen before bytes) next) in
+    let here : start + 0 ≡ 0 + start = omega arith in
+    let all : start + n ≡ length bytes = omega (arith, within, length-drop start bytes) in
+    texts_later f g start 0 n same ∙ ap (λ a. texts_from f a n) here ∙ ap (λ l. l ++ texts_from f (0 + start) n) (sym (calm index due last lasts))
+    ∙ sym (flat_map-append f (range_with_len 0 start) (range_with_len (0 + start) n)) ∙ ap (flat_map f) (sym (range_split 0 start n)) ∙ ap (texts_from f 0) all
+
+-- so the three parts of a chunk's lines are those of its ends, and those of the bytes behind the first ones
+pub rest_in_three : (text : List ℕ) (index due len : ℕ) (screen : List ℕ → List Row) (before bytes : List ℕ) (start : ℕ) (one other : Standing)
+    → len ≡ length text → start ≤ length bytes → IsStill text (screen before) one → IsStill text (screen (before ++ bytes)) other → IsCalm text screen before bytes start
+    → (less_lines 45 index due len one.rows.items one.places.items other.rows.items other.places.items
+    ++ flat_map (byte_lines text index due one.rows.items one.places.items other.rows.items other.places.items screen (before ++ take start bytes) (drop start bytes)) (range_with_len 0 (length (drop start bytes))))
+    ++ less_lines 43 index due len other.rows.items other.places.items one.rows.items one.places.items
+    ≡ chunk_lines text index due screen before bytes
+rest_in_three text index due len screen before bytes start one other l within is is' calm =
+    let went = less_lines 45 index due len one.rows.items one.places.items other.rows.items other.places.items in
+    let came = less_lines 43 index due len other.rows.items other.places.items one.rows.items one.places.items in
+    let lines = λ (first : List Row) (firsts : List Place) (played rest : List ℕ).
+    flat_map (byte_lines text index due first firsts other.rows.items other.places.items screen played rest) (range_with_len 0 (length rest)) in
+    let rest : lines one.rows.items one.places.items (before ++ take start bytes) (drop start bytes) ≡ lines one.rows.items one.places.items before bytes =
+    ap (λ ps. lines one.rows.items ps (before ++ take start bytes) (drop start bytes)) is.places
+    ∙ ap (λ r. lines r (standing text (screen before)) (before ++ take start bytes) (drop start bytes)) is.rows
+    ∙ rest_lines text index due screen before bytes start other.rows.items other.places.items within calm
+    ∙ sym (ap (λ r. lines r (standing text (screen before)) before bytes) is.rows)
+    ∙ sym (ap (λ ps. lines one.rows.items ps before bytes) is.places) in
+    ap (λ l. (went ++ l) ++ came) rest ∙ chunk_in_three text index due len screen before bytes one other l is is'
 
 -- ---- screens that trail
 
@@ -235,14 +289,28 @@ module _ {P T : Type 0} (shows : P → T → List ℕ → Type 0) (screens : Scr
     played = subst (λ n. shows profile behind (first chunks n)) (sym same) found.lagging;
   }
 
-  -- that are all
-  pub late_reached : (index : ℕ) (behind : T) (steps : Steps) → IsLate shows profile chunks index behind steps → steps.count ≡ index
-      → AreStill text (screens profile (first chunks index)) steps.sides → ((rows : List Row) → Lags steps.lag rows rows)
-      → IsReached shows screens profile chunks index text behind steps
-  late_reached index behind steps late all still none = record {
-    played = subst (λ n. shows profile behind (first chunks n)) all late.played;
-    still = still;
-    count = all;
+  -- and has had none of the next one's bytes
+  pub reached_inside : (index : ℕ) (behind : T) (steps : Steps) → IsReached shows screens profile chunks index text behind steps
+      → IsInside shows screens profile chunks index 0 text behind steps
+  reached_inside index behind steps reached =
+      let here = sym (append-nil (first chunks index)) in
+      record {
+        played = subst (shows profile behind) here reached.played;
+        still = subst (λ b. AreStill text (screens profile b) steps.sides) here reached.still;
+        calm = λ place due last lasts. refl;
+        count = reached.count;
+        none = reached.none;
+      }
+
+  -- and some of them, at which nothing passes
+  pub stood_inside : (index start : ℕ) (chunk : List ℕ) (behind : T) (steps : Steps) → chunk ≡ bytes_at chunks index → IsCalm text (screens profile) (first chunks index) chunk start
+      → shows profile behind (first chunks index ++ take start chunk) → AreStill text (screens profile (first chunks index ++ take start chunk)) steps.sides
+      → steps.count ≡ index → ((rows : List Row) → Lags steps.lag rows rows) → IsInside shows screens profile chunks index start text behind steps
+  stood_inside index start chunk behind steps bytes calm played still count none = record {
+    played = subst (λ b. shows profile behind (first chunks index ++ take start b)) bytes played;
+    still = subst (λ b. AreStill text (screens profile (first chunks index ++ take start b)) steps.sides) bytes still;
+    calm = subst (λ b. IsCalm text (screens profile) (first chunks index) b start) bytes calm;
+    count = count;
     none = none;
   }
 

@@ -41,7 +41,9 @@ pub(crate) fn put_chunk_again<T: Plays, F: Finder<T>, W: Write>(
         ahead ends.new behind.new steps.new) }
 {
     let ahead = begin_again::<T, F>(alloc, recording, index, text, ends, steps, behind)?;
-    put_chunk_behind::<T, F, W>(alloc, recording, index, text, ends, steps, behind, writer)?;
+    put_chunk_behind::<T, F, W>(
+        alloc, recording, index, 0, text, ends, steps, behind, writer,
+    )?;
     Ok(ahead)
 }
 

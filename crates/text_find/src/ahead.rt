@@ -1,7 +1,7 @@
 //! A chunk that is played ahead, in pieces, so long as nothing of a text passes inside it.
 
-ghost use Rattle.std.specs.Prelude.{◌≡◌, ◌≢◌, ◌++◌, ◌<◌, ◌≤◌, [], true, List, ℕ, length, IfOk, OnOk};
-ghost use Rattle.text_find.specs.Calm.{IsAhead, IsCalm, IsPiece};
+ghost use Rattle.std.specs.Prelude.{◌≡◌, ◌≢◌, ◌++◌, ◌<◌, ◌≤◌, [], List, None, ℕ, length, IfOk, IfSome, OnOk};
+ghost use Rattle.text_find.specs.Calm.{HasStood, IsAhead, IsCalm, IsPiece};
 ghost use Rattle.text_find.specs.Lines.{AreBetween, AreStill, IsLagging, IsTrailing};
 
 use crate::behind::{Steps, trail};
@@ -27,8 +27,8 @@ pub(crate) fn play<T: Plays>(
     terminal.feed(bytes, &mut sink)
 }
 
-/// Plays a chunk's bytes; says whether surely nothing of the text passes inside it. The list of letters is room for those
-/// that they write.
+/// Plays a chunk's bytes. Says from which of them on something of the text may pass inside it, if it may: what stood before
+/// a piece stands there, but where that is the chunk's first byte. The list of letters is room for those that they write.
 pub(crate) fn play_ahead<T: Plays, F: Finder<T>>(
     alloc: Global,
     text: &[char],
@@ -37,7 +37,7 @@ pub(crate) fn play_ahead<T: Plays, F: Finder<T>>(
     ends: &mut Sides,
     steps: &mut Steps,
     ahead: &mut T,
-) -> Result<bool, OutOfMemory>
+) -> Result<Option<usize>, OutOfMemory>
     ensures count { steps.new.count ≡ steps.old.count }
     ensures lags { IsLagging ends.old steps.old → OnOk result (IsLagging ends.new steps.new) }
     ensures shows { (profile : T.Profile) (before : List ℕ) → T.shows profile ahead.old before
@@ -47,25 +47,29 @@ pub(crate) fn play_ahead<T: Plays, F: Finder<T>>(
         → AreStill text.now (F.screens profile before) ends.old
         → OnOk result (AreBetween text.now
         (F.screens profile before) (F.screens profile (before ++ bytes.now)) ends.new) }
+    ensures within { IfOk result (λ passing. IfSome passing (λ start. start ≤ length bytes.now)) }
     ensures trails { (profile : T.Profile) (before : List ℕ) → T.shows profile ahead.old before
         → AreStill text.now (F.screens profile before) ends.old → IsTrailing ends.old steps.old
-        → IfOk result (λ calm. calm ≡ true → IsTrailing ends.new steps.new) }
+        → IfOk result (λ passing. passing ≡ None → IsTrailing ends.new steps.new) }
     ensures calm { (profile : T.Profile) (before : List ℕ) → T.shows profile ahead.old before
         → AreStill text.now (F.screens profile before) ends.old → IsTrailing ends.old steps.old
-        → IfOk result (λ calm. calm ≡ true
+        → IfOk result (λ passing. passing ≡ None
         → IsCalm text.now (F.screens profile) before bytes.now (length bytes.now)) }
+    ensures stood { (profile : T.Profile) (before : List ℕ) → T.shows profile ahead.old before
+        → AreStill text.now (F.screens profile before) ends.old → IsTrailing ends.old steps.old
+        → IfOk result (λ passing. IfSome passing (λ start.
+        HasStood text.now (F.screens profile) before bytes.now start steps.new.sides.before)) }
 {
-    let (taken, calm) = play_pieces::<T, F>(alloc, text, bytes, letters, ends, steps, ahead)?;
-    if calm {
-        return Ok(true);
+    let (taken, passing) = play_pieces::<T, F>(alloc, text, bytes, letters, ends, steps, ahead)?;
+    if passing.is_some() {
+        play(alloc, ahead, &bytes[taken..])?;
+        steps.lag = steps.lag.widened(catch_up::<T, F>(ends, ahead, text)?);
     }
-    play(alloc, ahead, &bytes[taken..])?;
-    steps.lag = steps.lag.widened(catch_up::<T, F>(ends, ahead, text)?);
-    Ok(false)
+    Ok(passing)
 }
 
 /// Plays a beginning of a chunk, piece by piece: all of it, or up to where something of the text may pass. Says how many
-/// bytes, and whether surely nothing passes at them.
+/// bytes, and from which of them on it may.
 fn play_pieces<T: Plays, F: Finder<T>>(
     alloc: Global,
     text: &[char],
@@ -74,10 +78,11 @@ fn play_pieces<T: Plays, F: Finder<T>>(
     ends: &mut Sides,
     steps: &mut Steps,
     ahead: &mut T,
-) -> Result<(usize, bool), OutOfMemory>
+) -> Result<(usize, Option<usize>), OutOfMemory>
     ensures count { steps.new.count ≡ steps.old.count }
     ensures within { IfOk result (λ played. played.0 ≤ length bytes.now) }
-    ensures all { IfOk result (λ played. played.1 ≡ true → played.0 ≡ length bytes.now) }
+    ensures start { IfOk result (λ played. IfSome played.1 (λ start. start ≤ length bytes.now)) }
+    ensures all { IfOk result (λ played. played.1 ≡ None → played.0 ≡ length bytes.now) }
     ensures lags { IsLagging ends.old steps.old → OnOk result (IsLagging ends.new steps.new) }
     ensures ahead { (profile : T.Profile) (before : List ℕ) → T.shows profile ahead.old before
         → AreStill text.now (F.screens profile before) ends.old
@@ -85,22 +90,29 @@ fn play_pieces<T: Plays, F: Finder<T>>(
         played.0 ahead.new ends.new) }
     ensures trails { (profile : T.Profile) (before : List ℕ) → T.shows profile ahead.old before
         → AreStill text.now (F.screens profile before) ends.old → IsTrailing ends.old steps.old
-        → IfOk result (λ played. played.1 ≡ true → IsTrailing ends.new steps.new) }
+        → IfOk result (λ played. played.1 ≡ None → IsTrailing ends.new steps.new) }
     ensures calm { (profile : T.Profile) (before : List ℕ) → T.shows profile ahead.old before
         → AreStill text.now (F.screens profile before) ends.old → IsTrailing ends.old steps.old
-        → IfOk result (λ played. played.1 ≡ true
+        → IfOk result (λ played. played.1 ≡ None
         → IsCalm text.now (F.screens profile) before bytes.now played.0) }
+    ensures stood { (profile : T.Profile) (before : List ℕ) → T.shows profile ahead.old before
+        → AreStill text.now (F.screens profile before) ends.old → IsTrailing ends.old steps.old
+        → IfOk result (λ played. IfSome played.1 (λ start.
+        HasStood text.now (F.screens profile) before bytes.now start steps.new.sides.before)) }
 {
     let mut taken = 0;
     while taken < bytes.len() {
+        // Where the text stands before the piece, what stood before is the same.
+        let stands = !ends.after.places.is_empty();
         let rest = &bytes[taken..];
         let (more, calm) = play_piece::<T, F>(alloc, text, rest, letters, ends, steps, ahead)?;
-        taken += more;
         if !calm {
-            return Ok((taken, false));
+            let start = if stands { taken } else { 0 };
+            return Ok((taken + more, Some(start)));
         }
+        taken += more;
     }
-    Ok((taken, true))
+    Ok((taken, None))
 }
 
 /// Plays a piece of a chunk: a beginning of the bytes. Says how many, and whether surely nothing of the text passes at
@@ -178,6 +190,8 @@ fn play_where_it_stands<T: Plays, F: Finder<T>>(
     steps.lag = steps.lag.widened(span);
     let (first, one, len) = (&ends.before, &steps.sides.before, text.len());
     let calm = none_passes(first, one, &ends.after, steps.lag, len);
-    trail(steps, ends)?;
+    if calm {
+        trail(steps, ends)?;
+    }
     Ok((taken, calm))
 }

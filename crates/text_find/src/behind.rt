@@ -1,6 +1,6 @@
 //! A terminal that lags where nothing passes, and what stands on a screen that trails another one.
 
-ghost use Rattle.std.specs.Prelude.{◌≡◌, ◌≤◌, true, List, ℕ, length, IfOk, OnOk};
+ghost use Rattle.std.specs.Prelude.{◌≡◌, ◌<◌, ◌≤◌, ◌++◌, false, true, List, ℕ, length, IfOk, OnOk};
 ghost use Rattle.standings.specs.Lag.{Lags};
 ghost use Rattle.standings.specs.Rows.{Row};
 ghost use Rattle.standings.specs.Spans.{Stays};
@@ -9,10 +9,10 @@ ghost use Rattle.text_find.specs.Lines.{AreBetween, AreStill, IsLagging, IsLate,
 
 use crate::ahead::play;
 use crate::finder::Finder;
-use crate::room::give_back;
+use crate::room::{fit, give_back};
 use crate::sides::{Sides, sides_of};
 use plays::{OutOfMemory, Plays};
-use standings::{Lag, Span, Standing};
+use standings::{Lag, Span};
 use std::alloc::Global;
 use tape_core::Recording;
 use tape_core::laws::first_grows_by_a_chunk;
@@ -64,58 +64,78 @@ pub(crate) fn trail(steps: &mut Steps, ends: &Sides) -> Result<(), OutOfMemory>
     Ok(())
 }
 
-/// Brings a terminal that lags to where a chunk begins, and what stands before and after a piece to what stands there. Says
-/// whether it did: else memory for what stands was refused, and the terminal has had as many chunks as its count says. What
-/// was kept of the chunk's inside is given back first.
+/// Brings a terminal that lags to where something of the text may pass inside a chunk: behind its first bytes, at which
+/// nothing does. What stands before and after a piece becomes what stands there. Says whether it did: else memory for what
+/// stands was refused, and the terminal has had as many chunks as its count says.
 pub(crate) fn reach<T: Plays>(
     alloc: Global,
     recording: &Recording,
     index: usize,
+    calm: &[u8],
     ends: &mut Sides,
     behind: &mut T,
     steps: &mut Steps,
 ) -> Result<bool, OutOfMemory>
     requires within { index ≤ length recording.now.chunks }
     ensures late { (profile : T.Profile) → IsLate T.shows profile recording.now.chunks index behind.old steps.old
-        → OnOk result (IsLate T.shows profile recording.now.chunks index behind.new steps.new) }
+        → IfOk result (λ done. done ≡ false → IsLate T.shows profile recording.now.chunks index behind.new steps.new) }
+    ensures played { (profile : T.Profile) → IsLate T.shows profile recording.now.chunks index behind.old steps.old
+        → IfOk result (λ done. done ≡ true
+        → T.shows profile behind.new (bytes_of_first recording.now.chunks index ++ calm.now)) }
     ensures count { IfOk result (λ done. done ≡ true → steps.new.count ≡ index) }
-    ensures steps { (text : List ℕ) (one other : List Row) → AreBetween text one other ends.old
-        → IsLagging ends.old steps.old
-        → IfOk result (λ done. done ≡ true → AreStill text one steps.new.sides) }
+    ensures steps { (text : List ℕ) (screen : List ℕ → List Row) (before : List ℕ) (last : List Row)
+        → AreBetween text (screen before) last ends.old → IsLagging ends.old steps.old
+        → (0 < length calm.now → IsStill text (screen (before ++ calm.now)) steps.old.sides.before)
+        → IfOk result (λ done. done ≡ true → AreStill text (screen (before ++ calm.now)) steps.new.sides) }
     ensures none { IfOk result (λ done. done ≡ true → (rows : List Row) → Lags steps.new.lag rows rows) }
+    ensures ends { (text : List ℕ) (one other : List Row) → AreBetween text one other ends.old
+        → AreBetween text one other ends.new }
+{
+    let Ok(()) = stand_behind(alloc, calm, ends, steps) else {
+        return Ok(false);
+    };
+    play_chunks(alloc, recording, steps.count, index, behind)?;
+    play(alloc, behind, calm)?;
+    steps.count = index;
+    steps.lag = Lag::none();
+    Ok(true)
+}
+
+/// What stands before and after a piece becomes what stands behind a chunk's first bytes: before it that stands already,
+/// but where they are none. What was kept of the chunk's inside beside that is given back first.
+fn stand_behind(
+    alloc: Global,
+    calm: &[u8],
+    ends: &mut Sides,
+    steps: &mut Steps,
+) -> Result<(), OutOfMemory>
+    ensures count { steps.new.count ≡ steps.old.count }
+    ensures steps { (text : List ℕ) (screen : List ℕ → List Row) (before : List ℕ) (last : List Row)
+        → AreBetween text (screen before) last ends.old → IsLagging ends.old steps.old
+        → (0 < length calm.now → IsStill text (screen (before ++ calm.now)) steps.old.sides.before)
+        → OnOk result (AreStill text (screen (before ++ calm.now)) steps.new.sides) }
     ensures ends { (text : List ℕ) (one other : List Row) → AreBetween text one other ends.old
         → AreBetween text one other ends.new }
 {
     let span = steps.lag.between(ends.lag, ends.after.rows.len());
     let reached = steps.sides.lag.reach(steps.sides.after.rows.len());
     let changed = reached.joined(span);
-    if give_back(alloc, ends, &mut steps.sides, span, changed).is_err() {
-        return Ok(false);
+    if calm.is_empty() {
+        give_back(alloc, ends, &mut steps.sides, span, changed)?;
+        steps.sides.before.follow(&ends.before, span)?;
+        return go_back(&mut steps.sides, changed);
     }
-    play_chunks(alloc, recording, steps.count, index, behind)?;
-    steps.count = index;
-    steps.lag = Lag::none();
-    let Ok(()) = stand_at(&mut steps.sides, &ends.before, span, changed) else {
-        return Ok(false);
-    };
-    Ok(true)
+    fit(alloc, &mut ends.after, &ends.before, changed)?;
+    go_back(&mut steps.sides, reached)
 }
 
-/// What stands before and after a piece becomes what stands at a chunk's start, from which only the rows of these spans
-/// may differ.
-fn stand_at(
-    steps: &mut Sides,
-    still: &Standing,
-    span: Span,
-    changed: Span,
-) -> Result<(), OutOfMemory>
-    ensures { (text : List ℕ) (one : List Row) → IsStill text one still.now
-        → Stays span steps.old.before.rows.items one → Stays changed steps.old.after.rows.items one
-        → OnOk result (AreStill text one steps.new) }
+/// What stands after becomes what stands before, from which only the rows of a span may differ.
+fn go_back(sides: &mut Sides, span: Span) -> Result<(), OutOfMemory>
+    ensures { (text : List ℕ) (one : List Row) → IsStill text one sides.old.before
+        → Stays span sides.old.after.rows.items one → OnOk result (AreStill text one sides.new) }
 {
-    steps.before.follow(still, span)?;
-    steps.after.follow(still, changed)?;
-    steps.lag = Lag::none();
+    sides.after.follow(&sides.before, span)?;
+    sides.lag = Lag::none();
     Ok(())
 }
 

@@ -1,8 +1,9 @@
 //! The lines of a chunk of a recording.
 
-ghost use Rattle.std.specs.Prelude.{◌≡◌, ◌+◌, ◌<◌, false, length, true, IfOk, OnErr, OnOk};
+ghost use Rattle.std.specs.Prelude.{◌≡◌, ◌+◌, ◌<◌, ◌≤◌, false, length, true, IfOk, OnErr, OnOk};
 ghost use Rattle.tape_core.specs.Devices.{Gave};
-ghost use Rattle.tape_core.specs.Due.{due_time, first as bytes_of_first};
+ghost use Rattle.tape_core.specs.Due.{bytes_at, due_time, first as bytes_of_first};
+ghost use Rattle.text_find.specs.Calm.{IsInside};
 ghost use Rattle.text_find.specs.Lines.{AreBetween, AreFound, AreStill, Began, IsLate, IsReached, chunk_lines_at};
 
 use crate::again::end_chunk;
@@ -56,10 +57,10 @@ pub(crate) fn put_chunk_at<T: Plays, F: Finder<T>, W: Write>(
 {
     first_grows_by_a_chunk();
     let bytes = recording.chunks()[index].bytes.as_slice();
-    let Ok(calm) = play_ahead::<T, F>(alloc, text, bytes, letters, ends, steps, ahead) else {
+    let Ok(passing) = play_ahead::<T, F>(alloc, text, bytes, letters, ends, steps, ahead) else {
         return Ok(false);
     };
-    if calm {
+    let Some(start) = passing else {
         put_ends(alloc, moment_of(recording, index, text), ends, writer)?;
         end_chunk::<T, F>(
             alloc,
@@ -72,40 +73,46 @@ pub(crate) fn put_chunk_at<T: Plays, F: Finder<T>, W: Write>(
             behind,
         )?;
         return Ok(true);
-    }
-    if !reach(alloc, recording, index, ends, behind, steps)? {
+    };
+    let calm = &bytes[..start];
+    if !reach(alloc, recording, index, calm, ends, behind, steps)? {
         return Ok(false);
     }
-    put_chunk_behind::<T, F, W>(alloc, recording, index, text, ends, steps, behind, writer)?;
+    put_chunk_behind::<T, F, W>(
+        alloc, recording, index, start, text, ends, steps, behind, writer,
+    )?;
     Ok(true)
 }
 
-/// Plays a chunk in pieces on a terminal that has had those before it, and writes its lines, by what stands at its ends.
+/// Plays a chunk in pieces on a terminal that has had those before it and so many of its bytes, at which nothing passes, and
+/// writes its lines, by what stands at its ends.
 pub(crate) fn put_chunk_behind<T: Plays, F: Finder<T>, W: Write>(
     alloc: Global,
     recording: &Recording,
     index: usize,
+    start: usize,
     text: &[char],
     ends: &mut Sides,
     steps: &mut Steps,
     behind: &mut T,
     writer: &mut Watched<W>,
 ) -> Result<(), OutOfMemory>
-    requires { index < length recording.now.chunks }
+    requires within { index < length recording.now.chunks }
+    requires start { start ≤ length (bytes_at recording.now.chunks index) }
     ensures gave { (profile : T.Profile)
-        → IsReached T.shows F.screens profile recording.now.chunks index text.now behind.old steps.old
+        → IsInside T.shows F.screens profile recording.now.chunks index start text.now behind.old steps.old
         → AreBetween text.now (F.screens profile (bytes_of_first recording.now.chunks index))
         (F.screens profile (bytes_of_first recording.now.chunks (index + 1))) ends.old
         → OnOk result (Gave W.contents writer.old writer.new
         (chunk_lines_at text.now F.screens profile recording.now index)) }
     ensures front { (profile : T.Profile)
-        → IsReached T.shows F.screens profile recording.now.chunks index text.now behind.old steps.old
+        → IsInside T.shows F.screens profile recording.now.chunks index start text.now behind.old steps.old
         → AreBetween text.now (F.screens profile (bytes_of_first recording.now.chunks index))
         (F.screens profile (bytes_of_first recording.now.chunks (index + 1))) ends.old
         → OnErr result (Began W.contents writer.old writer.new
         (chunk_lines_at text.now F.screens profile recording.now index)) }
     ensures reached { (profile : T.Profile)
-        → IsReached T.shows F.screens profile recording.now.chunks index text.now behind.old steps.old
+        → IsInside T.shows F.screens profile recording.now.chunks index start text.now behind.old steps.old
         → OnOk result (IsReached T.shows F.screens profile recording.now.chunks (index + 1) text.now
         behind.new steps.new) }
     ensures still { (profile : T.Profile)
@@ -121,6 +128,7 @@ pub(crate) fn put_chunk_behind<T: Plays, F: Finder<T>, W: Write>(
         text,
         moment,
         bytes,
+        start,
         ends,
         &mut steps.sides,
         behind,

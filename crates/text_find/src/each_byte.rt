@@ -5,6 +5,7 @@ ghost use Rattle.std.specs.List.{flat_map, range_with_len};
 ghost use Rattle.standings.specs.Rows.{Row};
 ghost use Rattle.standings.specs.Standing.{standing};
 ghost use Rattle.tape_core.specs.Devices.{Gave};
+ghost use Rattle.text_find.specs.Calm.{IsCalm};
 ghost use Rattle.text_find.specs.Lines.{AreBetween, AreStill, Began, byte_lines, chunk_lines, passed_lines};
 ghost use Rattle.text_find.specs.Pieces.{AreQuiet};
 
@@ -20,37 +21,43 @@ use std::io::Write;
 use tape_core::Watched;
 use tape_core::laws::gives_join;
 
-/// Plays a chunk in pieces, and writes what went, what came and went inside it, and what came, by what stands at its ends.
+/// Plays a chunk in pieces on a terminal that has had so many of its bytes, at which nothing passes, and writes what went,
+/// what came and went inside it, and what came, by what stands at its ends.
 pub(crate) fn put_chunk<T: Plays, F: Finder<T>, W: Write>(
     alloc: Global,
     text: &[char],
     moment: Moment,
     bytes: &[u8],
+    start: usize,
     ends: &Sides,
     steps: &mut Sides,
     behind: &mut T,
     writer: &mut Watched<W>,
 ) -> Result<(), OutOfMemory>
-    requires { moment.len ≡ length text.now }
-    ensures gave { (profile : T.Profile) (before : List ℕ) → T.shows profile behind.old before
+    requires len { moment.len ≡ length text.now }
+    requires start { start ≤ length bytes.now }
+    ensures gave { (profile : T.Profile) (before : List ℕ) → T.shows profile behind.old (before ++ take start bytes.now)
         → AreBetween text.now (F.screens profile before) (F.screens profile (before ++ bytes.now)) ends.now
-        → AreStill text.now (F.screens profile before) steps.old
+        → AreStill text.now (F.screens profile (before ++ take start bytes.now)) steps.old
+        → IsCalm text.now (F.screens profile) before bytes.now start
         → OnOk result (Gave W.contents writer.old writer.new
         (chunk_lines text.now moment.index moment.due (F.screens profile) before bytes.now)) }
-    ensures front { (profile : T.Profile) (before : List ℕ) → T.shows profile behind.old before
+    ensures front { (profile : T.Profile) (before : List ℕ) → T.shows profile behind.old (before ++ take start bytes.now)
         → AreBetween text.now (F.screens profile before) (F.screens profile (before ++ bytes.now)) ends.now
-        → AreStill text.now (F.screens profile before) steps.old
+        → AreStill text.now (F.screens profile (before ++ take start bytes.now)) steps.old
+        → IsCalm text.now (F.screens profile) before bytes.now start
         → OnErr result (Began W.contents writer.old writer.new
         (chunk_lines text.now moment.index moment.due (F.screens profile) before bytes.now)) }
-    ensures behind { (profile : T.Profile) (before : List ℕ) → T.shows profile behind.old before
+    ensures behind { (profile : T.Profile) (before : List ℕ) → T.shows profile behind.old (before ++ take start bytes.now)
         → OnOk result (T.shows profile behind.new (before ++ bytes.now)) }
-    ensures steps { (profile : T.Profile) (before : List ℕ) → T.shows profile behind.old before
-        → AreStill text.now (F.screens profile before) steps.old
+    ensures steps { (profile : T.Profile) (before : List ℕ) → T.shows profile behind.old (before ++ take start bytes.now)
+        → AreStill text.now (F.screens profile (before ++ take start bytes.now)) steps.old
         → OnOk result (AreStill text.now (F.screens profile (before ++ bytes.now)) steps.new) }
 {
     gives_join::<W>();
     put_gone(alloc, moment, ends, writer)?;
-    put_bytes::<T, F, W>(alloc, text, moment, ends, bytes, steps, behind, writer)?;
+    let rest = &bytes[start..];
+    put_bytes::<T, F, W>(alloc, text, moment, ends, rest, steps, behind, writer)?;
     put_come(alloc, moment, ends, writer)?;
     Ok(())
 }

@@ -140,7 +140,9 @@ pub(crate) fn play_foretold<T: Plays, F: Finder<T>>(
             steps.lag,
             text.len(),
         );
-    trail(steps, ends)?;
+    if calm {
+        trail(steps, ends)?;
+    }
     Ok((taken, calm))
 }
 

@@ -42,7 +42,12 @@ fn empty_rows(rows: &mut Vec<Row>, span: Span)
 }
 
 /// The rows of a span, and the places, give back the room that neither they nor those of another screen have taken.
-fn fit(alloc: Global, still: &mut Standing, other: &Standing, span: Span) -> Result<(), OutOfMemory>
+pub(crate) fn fit(
+    alloc: Global,
+    still: &mut Standing,
+    other: &Standing,
+    span: Span,
+) -> Result<(), OutOfMemory>
     ensures rows { still.new.rows.items ≡ still.old.rows.items }
     ensures places { still.new.places.items ≡ still.old.places.items }
 {

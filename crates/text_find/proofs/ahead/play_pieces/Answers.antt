@@ -1,9 +1,12 @@
-use Rattle.std.proofs.Common.{◌∙◌, ◌++◌, ap, append-nil, arith, length, refl, subst, sym, take}
+use Rattle.std.proofs.Common.{◌≡◌, ◌∙◌, ◌++◌, [], ap, append-nil, arith, length, refl, subst, sym, take}
+use Rattle.std.specs.Vec.{vec_len}
+use Rattle.std.proofs.lemmas.Bool.{eqb-false}
 use Rattle.std.proofs.lemmas.List.{length-drop, take_rest}
-use Rattle.text_find.specs.Calm.{NonePass}
-use Rattle.text_find.specs.Lines.{AreBetween}
-use Rattle.text_find.proofs.CalmLemmas.{ahead_more, calm_more}
+use Rattle.text_find.specs.Calm.{HasStood, NonePass}
+use Rattle.text_find.specs.Lines.{AreBetween, IsStill}
+use Rattle.text_find.proofs.CalmLemmas.{ahead_more, calm_more, stood_before, stood_none}
 use Rattle.text_find.proofs.ahead.play_pieces.Goals as goal
+use Rattle.text_find.proofs.ahead.play_pieces.Goals.{then-stands, else-stands}
 
 pub loop-taken-init : goal.loop-taken-init
 loop-taken-init g c = record {
@@ -33,6 +36,29 @@ returns-then-not-calm-clause-ahead g c = λ profile before h are.
     ahead_more g.T.Plays.shows g.F.Finder.screens profile text before bytes at taken c.play_piece.new.ahead ends
     (subst (λ b. g.T.Plays.shows profile c.play_piece.new.ahead (so_far ++ take taken b)) rest (c.in_ok-more.ensures.piece.played profile so_far there.played))
     (subst (λ b. AreBetween text (screen before) (screen (so_far ++ take taken b)) ends) rest (c.in_ok-more.ensures.piece.between profile before so_far there.played there.between))
+
+pub returns-then-not-calm-clause-stood : goal.returns-then-not-calm-clause-stood
+returns-then-not-calm-clause-stood g c = λ profile before h are trails.
+    let text = c.args.text.now in
+    let bytes = c.args.bytes.now in
+    let at = c.loop-taken.taken in
+    let screen = g.F.Finder.screens profile in
+    let kept = c.loop-taken.invariant in
+    let ends = c.loop-taken.ends in
+    let steps = c.loop-taken.steps in
+    let not_calm = c.if-not-calm.true in
+    elim c.if-stands.branch [
+      | then-stands w ↦
+          let there = kept.ahead profile before h are in
+          let many : vec_len ends.after.places ≡ 0 → ⊥ = eqb-false (vec_len ends.after.places) 0 (sym c.is_empty-stands.ensures ∙ w.if-stands.true) in
+          let stands : ends.after.places.items ≡ [] → ⊥ = λ none. many (omega (arith, ap length none)) in
+          let stood = stood_before text (screen (before ++ take at bytes)) ends steps stands there.between.after (kept.trails profile before h are trails) in
+          subst (λ n. HasStood text screen before bytes n c.play_piece.new.steps.sides.before) (sym w.start-is) (record {
+            calm = kept.calm profile before h are trails;
+            still = λ some. subst (λ sides. IsStill text (screen (before ++ take at bytes)) sides.before) (sym (c.in_ok-more.ensures.piece.stays not_calm)) stood;
+          })
+      | else-stands w ↦ subst (λ n. HasStood text screen before bytes n c.play_piece.new.steps.sides.before) (sym w.start-is) (stood_none text screen before bytes c.play_piece.new.steps.sides.before)
+    ]
 
 pub loop-taken-preserved : goal.loop-taken-preserved
 loop-taken-preserved g c =

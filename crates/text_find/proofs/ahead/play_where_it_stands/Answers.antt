@@ -1,5 +1,5 @@
 use Rattle.std.proofs.Common.{◌≤◌, ◌++◌, List, ℕ, refl, subst, sym, ◌∙◌, take}
-use Rattle.std.proofs.lemmas.Bool.{leb-true}
+use Rattle.std.proofs.lemmas.Bool.{false≢true, leb-true}
 use Rattle.standings.proofs.SpanLemmas.{stays_none}
 use Rattle.text_find.specs.Lines.{AreBetween, IsLagging, IsStill}
 use Rattle.text_find.proofs.CalmLemmas.{lags_on, quiet_calm, stays_calm, stood_before, trails_on}
@@ -33,10 +33,11 @@ returns-then-is_none-clause-piece g c =
           let screen = g.F.Finder.screens profile in
           stays_calm text (screen first) screen before bytes taken (piece.quiet profile before h are.after.rows are.after.places)
           (sym are.after.rows ∙ sym rows ∙ (after profile first before h are).after.rows);
+      stays = λ no. refl;
     }
 
-pub returns-clause-piece : goal.returns-clause-piece
-returns-clause-piece g c =
+pub returns-in_ok-trail-clause-piece : goal.returns-in_ok-trail-clause-piece
+returns-in_ok-trail-clause-piece g c =
     let text = c.args.text.now in
     let bytes = c.args.bytes.now in
     let taken = c.in_ok-taken.taken in
@@ -62,5 +63,23 @@ returns-clause-piece g c =
           quiet_calm text (screen first) screen before bytes taken ends.before c.args.steps.now.sides.before ends.after
           (piece.quiet profile before h are.after.rows are.after.places) still.before
           stood still.after
-          (c.none_passes-calm.ensures calm text (screen before) (screen (before ++ take taken bytes)) refl stood still.after (more trails.lags).before);
+          (c.none_passes-calm.ensures c.if-calm.true text (screen before) (screen (before ++ take taken bytes)) refl stood still.after (more trails.lags).before);
+      stays = λ no. absurd (false≢true (sym no ∙ c.if-calm.true));
+    }
+
+pub returns-else-calm-clause-piece : goal.returns-else-calm-clause-piece
+returns-else-calm-clause-piece g c =
+    let text = c.args.text.now in
+    let bytes = c.args.bytes.now in
+    let piece = c.in_ok-taken.ensures in
+    record {
+      some = piece.some;
+      within = piece.within;
+      lags = λ lags. record { before = c.widened-steps.ensures _ _ _ lags.before c.in_ok-span.ensures.others; after = lags.after };
+      played = piece.shows;
+      between = λ profile first before h are.
+          c.in_ok-span.ensures.sides profile first before (before ++ take c.in_ok-taken.taken bytes) (piece.shows profile before h) (piece.told profile before h) are;
+      trails = λ profile first before h are trails calm. absurd (false≢true (sym c.if-calm.false ∙ calm));
+      calm = λ profile first before h are trails calm. absurd (false≢true (sym c.if-calm.false ∙ calm));
+      stays = λ no. refl;
     }

@@ -1,4 +1,4 @@
-use Rattle.std.proofs.Common.{◌≡◌, ◌≤◌, [], ◌++◌, List, ℕ, ap, arith, inl, subst, sym, true, ◌∙◌, take}
+use Rattle.std.proofs.Common.{◌≡◌, ◌≤◌, [], ◌++◌, List, ℕ, ap, arith, inl, refl, subst, sym, true, ◌∙◌, take}
 use Rattle.std.specs.Vec.{vec_len}
 use Rattle.std.proofs.lemmas.Bool.{eqb-true, leb-true}
 use Rattle.std.proofs.lemmas.List.{nil_from_length}
@@ -40,6 +40,7 @@ returns-then-is_none-clause-piece g c =
           let nowhere : standing text (screen before) ≡ [] = sym are.after.places ∙ c.requires.none in
           nowhere_calm text (screen first) screen before bytes taken
           (piece.between profile before h nowhere (ap (standing text) (same profile first before h are) ∙ nowhere));
+      stays = λ no. refl;
     }
 
 pub returns-clause-piece : goal.returns-clause-piece
@@ -69,4 +70,5 @@ returns-clause-piece g c =
           let screen = g.F.Finder.screens profile in
           nowhere_calm text (screen first) screen before bytes taken
           (piece.between profile before h (sym are.after.places ∙ c.requires.none) (sym (after profile first before h are).after.places ∙ empty calm));
+      stays = λ no. refl;
     }

@@ -3,7 +3,7 @@ use Rattle.std.proofs.lemmas.Result.{err_from_is_err_and}
 use Rattle.tape_core.specs.Devices.{Gave}
 use Rattle.standings.specs.Standing.{standing}
 use Rattle.text_find.specs.Lines.{Began, IsStill}
-use Rattle.text_find.proofs.BeganLemmas.{began_none, began_whole}
+use Rattle.text_find.proofs.BeganLemmas.{began_whole}
 use Rattle.text_find.proofs.LineLemmas.{nothing_passed, passed_by, same_screens}
 use Rattle.text_find.proofs.each_byte.put_step.Goals as goal
 

@@ -1,4 +1,5 @@
 use Rattle.std.proofs.Common.{◌≡◌, ◌<◌, ◌≤◌, ◌++◌, List, ℕ, false, refl, ap, length, subst, sym, take, ◌∙◌}
+use Rattle.std.proofs.lemmas.Bool.{false≢true}
 use Rattle.text_find.specs.Calm.{NonePass}
 use Rattle.text_find.specs.Foretold.{taken_by}
 use Rattle.text_find.specs.Lines.{AreBetween, IsStill}
@@ -7,8 +8,8 @@ use Rattle.text_find.proofs.CalmLemmas.{quiet_calm, stood_before}
 use Rattle.text_find.proofs.foretold.play_foretold.Goals as goal
 use Rattle.text_find.proofs.foretold.play_foretold.Goals.{then-surely, else-surely}
 
-pub returns-clause-piece : goal.returns-clause-piece
-returns-clause-piece g c =
+pub returns-in_ok-trail-clause-piece : goal.returns-in_ok-trail-clause-piece
+returns-in_ok-trail-clause-piece g c =
     let text = c.args.text.now in
     let bytes = c.args.bytes.now in
     let foretold = c.args.foretold in
@@ -45,6 +46,7 @@ returns-clause-piece g c =
                 quiet_calm text (screen first) screen before bytes taken ends.before c.change.new.steps.sides.before ends.after
                 (subst (AreQuiet text screen before bytes) (sym count) (c.is_calm-surely.ensures.quiet w.if-surely.false text screen before bytes told.keeps)) still.before
                 (stood w.if-surely.false) still.after
-                (w.none_passes-calm.ensures (sym w.calm-is ∙ calm) text (screen before) (screen (before ++ take taken bytes)) refl (stood w.if-surely.false) still.after (more trails.lags).before)
+                (w.none_passes-calm.ensures (sym w.calm-is ∙ c.if-calm.true) text (screen before) (screen (before ++ take taken bytes)) refl (stood w.if-surely.false) still.after (more trails.lags).before)
           ];
+      stays = λ no. absurd (false≢true (sym no ∙ c.if-calm.true));
     }

@@ -1,4 +1,4 @@
-use Rattle.std.proofs.Common.{◌<◌, ◌≢◌, ◌∙◌, arith, get_or-set_other, min}
+use Rattle.std.proofs.Common.{◌<◌, ◌∙◌, arith, get_or-set_other}
 use Rattle.std.proofs.lemmas.List.{length-set}
 use Rattle.standings.specs.Rows.{empty_row}
 use Rattle.standings.proofs.SpanLemmas.{stays_all}
