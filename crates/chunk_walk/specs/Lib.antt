@@ -1,3 +1,4 @@
 pub mod ChangeLine
 pub mod Walk
 pub mod Stops
+pub mod Runs

@@ -1,11 +1,12 @@
 //! The line that tells which lines of a screen a chunk changes, on whichever terminal.
 
-ghost use Rattle.std.specs.Prelude.{◌≡◌, ◌≤◌, ◌++◌, ◌∷◌, drop, length};
+ghost use Rattle.std.specs.Prelude.{◌≡◌, ◌+◌, ◌-◌, ◌<◌, ◌≤◌, ◌++◌, ◌∷◌, drop, length, take};
 ghost use Rattle.std.specs.Fmt.{decimal};
 ghost use Rattle.std.specs.List.{flat_map};
 ghost use Rattle.tape_core.specs.Devices.{Gave};
 ghost use Rattle.tape_core.specs.Written.{seconds_form};
 ghost use Rattle.chunk_walk.specs.ChangeLine.{change_line, spaced_number};
+ghost use Rattle.chunk_walk.specs.Runs.{run_text};
 ghost use Rattle.held.specs.Held.{Wrote};
 
 use arrayvec::ArrayVec;
@@ -20,6 +21,12 @@ const TOGETHER: usize = 8;
 
 /// How many bytes these take at most, each of five digits.
 const ROOM: usize = 48;
+
+/// The numbers from 0 to 99, a space before each.
+static SMALL: [u8; 290] =
+    *b" 0 1 2 3 4 5 6 7 8 9 10 11 12 13 14 15 16 17 18 19 20 21 22 23 24 25 26 27 28 29 \
+      30 31 32 33 34 35 36 37 38 39 40 41 42 43 44 45 46 47 48 49 50 51 52 53 54 55 56 57 58 59 60 61 62 63 64 \
+      65 66 67 68 69 70 71 72 73 74 75 76 77 78 79 80 81 82 83 84 85 86 87 88 89 90 91 92 93 94 95 96 97 98 99";
 
 /// The number of a line, of at most five digits.
 pub trait LineNumber: Integer {
@@ -87,9 +94,77 @@ fn put_numbers<N: LineNumber, W: Write>(
 {
     let mut at = 0;
     while at < numbers.len() {
-        let count = TOGETHER.min(numbers.len() - at);
-        put_some(&numbers[at..at + count], held, writer);
-        at += count;
+        at += put_first(&numbers[at..], held, writer);
+    }
+}
+
+/// Writes the first of the numbers, a space before each, and tells how many. Those that follow each other by one, as the
+/// lines of a screen that scrolls do, are a part of one text.
+fn put_first<N: LineNumber, W: Write>(
+    numbers: &[N],
+    held: &mut ArrayVec<u8, HELD>,
+    writer: &mut Watched<W>,
+) -> usize
+    requires { 0 < length numbers.now }
+    ensures some { 0 < result }
+    ensures within { result ≤ length numbers.now }
+    ensures wrote { Wrote W.contents writer.old held.old.items writer.new held.new.items
+        (flat_map (spaced_number N.text) (take result numbers.now)) }
+{
+    let first = numbers[0].number();
+    let run = run_of(numbers, first);
+    if run >= TOGETHER {
+        put(small_text(first as usize, run), held, writer);
+        return run;
+    }
+    let count = TOGETHER.min(numbers.len());
+    put_some(&numbers[..count], held, writer);
+    count
+}
+
+/// How many of the first numbers follow each other by one, from this one on, and are none above 99.
+fn run_of<N: LineNumber>(numbers: &[N], first: u64) -> usize
+    ensures within { result ≤ length numbers.now }
+    ensures small { 0 < result → first + result ≤ 100 }
+    ensures run { flat_map (spaced_number N.text) (take result numbers.now) ≡ run_text first result }
+{
+    if first >= 100 {
+        return 0;
+    }
+    let most = numbers.len().min(100 - first as usize);
+    let mut count = 0;
+    while count < most && numbers[count].number() == first + count as u64 {
+        count += 1;
+    }
+    count
+}
+
+/// The text of so many numbers from one on, a space before each, none above 99.
+fn small_text(first: usize, count: usize) -> &'static [u8]
+    requires { first + count ≤ 100 }
+    ensures { result.now ≡ run_text first count }
+{
+    part(&SMALL, small_place(first), small_place(first + count))
+}
+
+/// The part of a text from one place to another.
+fn part(text: &[u8], from: usize, to: usize) -> &[u8]
+    requires apart { from ≤ to }
+    requires within { to ≤ length text.now }
+    ensures { result.now ≡ take (to - from) (drop from text.now) }
+{
+    &text[from..to]
+}
+
+/// Where a number begins in the text of all that aren't above 99.
+fn small_place(number: usize) -> usize
+    requires { number ≤ 100 }
+    ensures { result ≡ length (run_text 0 number) }
+{
+    if number < 10 {
+        2 * number
+    } else {
+        3 * number - 10
     }
 }
 
