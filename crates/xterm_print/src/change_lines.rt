@@ -54,13 +54,13 @@ struct ChangedRows {
 
 impl Visitor<Terminal> for ChangedRows {
     ghost use Rattle.xterm_print.specs.ChangeLines.{change_text};
-    ghost use Rattle.xterm_print.specs.Kept.{AreKept};
+    ghost use Rattle.xterm_print.specs.Kept.{AreApart, AreKept};
 
     type Kept = KeptRows;
 
     ghost text = { λ _. change_text };
 
-    ghost keeps = { λ size kept bytes. AreKept size kept.rows.items bytes };
+    ghost keeps = { λ size kept bytes. AreKept size kept.rows.items bytes × AreApart kept.apart kept.rows.items };
 
     ghost takes_none = { ⊥ };
 
@@ -85,7 +85,12 @@ impl Visitor<Terminal> for ChangedRows {
         size_stays();
         let screen = terminal.screen();
         if kept.rows.len() == screen.lines() as usize {
-            catch_up(kept.rows.as_mut_slice(), screen, &mut kept.changed);
+            catch_up(
+                kept.rows.as_mut_slice(),
+                screen,
+                &mut kept.apart,
+                &mut kept.changed,
+            );
             put_change(index, due, kept.changed.as_slice(), writer);
         }
         Ok(())

@@ -6,10 +6,10 @@ ghost use Rattle.sheet.specs.Cells.{Cell};
 ghost use Rattle.sheet.specs.Grid.{IsUsed, row_at};
 ghost use Rattle.xterm_screen.specs.Picture.{Tells};
 ghost use Rattle.xterm_print.specs.ChangeLines.{changed_lines, is_changed, same_row};
-ghost use Rattle.xterm_print.specs.Kept.{FollowAll, FollowLines, Follows};
+ghost use Rattle.xterm_print.specs.Kept.{AreApart, FollowAll, FollowLines, Follows};
 ghost use Rattle.xterm_print.specs.Same.{Agree};
 
-use crate::moved::{catch_up_moved, moved_up};
+use crate::moved::{Apart, catch_up_moved, moved_up};
 use crate::same::{TOGETHER, place_from, same_cell, same_up_to};
 use arrayvec::ArrayVec;
 use sheet::Cell;
@@ -21,10 +21,12 @@ use xterm_screen::Screen;
 /// How many rows a sheet has at most.
 pub(crate) const ROWS: usize = MOST_LINES as usize;
 
-/// A copy of the rows of a sheet, and room for the numbers of those that a chunk changes.
+/// A copy of the rows of a sheet, lines of which it is known that their rows differ, and room for the numbers of those that
+/// a chunk changes.
 #[derive(Drop)]
 pub struct KeptRows {
     pub rows: Vec<KeptRow>,
+    pub apart: Apart,
     pub changed: ArrayVec<u16, ROWS>,
 }
 
@@ -52,12 +54,14 @@ impl Model for KeptRow {
 impl KeptRows {
     /// A copy of the rows of the sheet that is shown.
     pub fn of(alloc: Global, screen: &Screen) -> Result<Self, AllocError>
-        ensures { IfOk result (λ kept. FollowAll screen.now.picture.lines
+        ensures rows { IfOk result (λ kept. FollowAll screen.now.picture.lines
             screen.now.picture.columns kept.rows.items screen.now.picture.rows) }
+        ensures known { IfOk result (λ kept. AreApart kept.apart kept.rows.items) }
     {
         let rows = kept_rows(alloc, screen)?;
         Ok(KeptRows {
             rows,
+            apart: Apart::none(),
             changed: ArrayVec::new(),
         })
     }
@@ -173,8 +177,15 @@ fn kept_rows(alloc: Global, screen: &Screen) -> Result<Vec<KeptRow>, AllocError>
 
 /// The lines whose rows differ from those of the sheet that is shown, which they then follow. Only touched lines are
 /// looked at: the sheet tells that the others are as before.
-pub fn catch_up(rows: &mut [KeptRow], screen: &Screen, changed: &mut ArrayVec<u16, ROWS>)
-    requires { length rows.old ≡ screen.now.picture.lines }
+pub fn catch_up(
+    rows: &mut [KeptRow],
+    screen: &Screen,
+    apart: &mut Apart,
+    changed: &mut ArrayVec<u16, ROWS>,
+)
+    requires rows { length rows.old ≡ screen.now.picture.lines }
+    requires known { AreApart apart.old rows.old }
+    ensures known { AreApart apart.new rows.new }
     ensures changed { (before : List (List Cell)) → Tells before screen.now
         → FollowAll screen.now.picture.lines screen.now.picture.columns rows.old before
         → changed.new.items ≡ changed_lines screen.now.picture.lines before screen.now.picture.rows }
@@ -190,7 +201,7 @@ pub fn catch_up(rows: &mut [KeptRow], screen: &Screen, changed: &mut ArrayVec<u1
     while line <= lines {
         // Where a line was touched, the next one mostly was too: the others are looked for in blocks.
         if screen.is_touched(line) {
-            line = catch_up_from(rows, screen, line, changed);
+            line = catch_up_from(rows, screen, line, apart, changed);
         } else {
             line = screen.next_touched(line);
         }
@@ -203,14 +214,17 @@ fn catch_up_from(
     rows: &mut [KeptRow],
     screen: &Screen,
     line: u16,
+    apart: &mut Apart,
     changed: &mut ArrayVec<u16, ROWS>,
 ) -> u16
     requires rows { length rows.old ≡ screen.now.picture.lines }
+    requires known { AreApart apart.old rows.old }
     requires low { 1 ≤ line }
     requires high { line ≤ screen.now.picture.lines }
     requires few { length changed.old.items + 1 ≤ line }
     ensures low { line < result }
     ensures high { result ≤ screen.now.picture.lines + 1 }
+    ensures known { AreApart apart.new rows.new }
     ensures whole { length rows.new ≡ length rows.old }
     ensures few { length changed.new.items + 1 ≤ result }
     ensures before { (k : ℕ) → 1 ≤ k → k < line → row_at rows.new k ≡ row_at rows.old k }
@@ -227,8 +241,9 @@ fn catch_up_from(
     let _cursor = screen.cursor();
     let shift = moved_up(screen, line);
     if shift > 0 && !changed.is_empty() {
-        return catch_up_moved(rows, screen, line, shift, changed);
+        return catch_up_moved(rows, screen, line, shift, apart, changed);
     }
+    apart.forget(line);
     if catch_up_line(rows, screen, line) {
         changed.push(line);
     }

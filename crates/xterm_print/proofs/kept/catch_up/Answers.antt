@@ -12,7 +12,8 @@ pub loop-line-init : goal.loop-line-init
 loop-line-init c = record {
   low = omega arith;
   high = omega arith;
-  whole = c.requires;
+  whole = c.requires.rows;
+  known = c.requires.known;
   changed = λ before told follow. c.clear.ensures;
   few = omega (arith, ap length c.clear.ensures);
   later = λ k here low. refl;
@@ -35,6 +36,7 @@ loop-line-preserved-then-is_touched c =
       low = omega (arith, kept.low, there.low);
       high = there.high;
       whole = there.whole ∙ kept.whole;
+      known = there.known;
       changed = λ before told follow. there.changed before told (was before follow) (kept.changed before told follow);
       few = there.few;
       later = λ k here from. there.behind k from ∙ kept.later k here (omega (arith, from, there.low));
@@ -57,6 +59,7 @@ loop-line-preserved c =
       low = omega (arith, kept.low, there.low);
       high = there.high;
       whole = kept.whole;
+      known = kept.known;
       changed = λ before told follow.
           let all : line - 1 + (next - line) ≡ next - 1 = omega (arith, kept.low, there.low) in
           kept.changed before told follow

@@ -4,6 +4,9 @@ use Rattle.xterm_print.proofs.KeptLemmas.{passing_more}
 use Rattle.xterm_print.proofs.kept.catch_up_from.Goals as goal
 use Rattle.xterm_print.proofs.kept.catch_up_from.Goals.{then-catch_up_line, else-catch_up_line}
 
+pub returns-clause-known : goal.returns-clause-known
+returns-clause-known c = c.forget.ensures c.args.rows.now c.catch_up_line.new.rows c.requires.known c.catch_up_line.ensures.others
+
 pub returns-clause-changed : goal.returns-clause-changed
 returns-clause-changed c = λ before marked follow so_far.
     let line = c.args.line in

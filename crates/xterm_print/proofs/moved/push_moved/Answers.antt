@@ -1,39 +1,24 @@
-use Rattle.std.proofs.Common.{◌≡◌, ◌+◌, ◌-◌, ◌≤◌, ◌∙◌, ap, ap₂, append-nil, arith, length, not, sym}
+use Rattle.std.proofs.Common.{◌≡◌, ℕ, ◌+◌, ◌∙◌, ap, arith, not, sym}
 use Rattle.sheet.specs.Grid.{row_at}
 use Rattle.xterm_print.specs.ChangeLines.{same_row}
-use Rattle.xterm_print.proofs.KeptLemmas.{passing_more}
 use Rattle.xterm_print.proofs.moved.push_moved.Goals as goal
-use Rattle.xterm_print.proofs.moved.push_moved.Goals.{then-differ, else-differ}
 
-pub differ-requires : goal.differ-requires
-differ-requires c = record {
-  place = omega (arith, ap length c.loop-line.invariant.stay, c.requires.high);
-  other = omega (arith, ap length c.loop-line.invariant.stay, c.requires.high);
-}
-
-pub loop-line-preserved : goal.loop-line-preserved
-loop-line-preserved c =
-    let line = c.loop-line.line in
+pub returns : goal.returns
+returns c =
     let rows = c.args.rows.now in
     let shift = c.args.shift in
-    let kept = c.loop-line.invariant in
-    let low : 1 ≤ line = omega arith in
-    let one : line - 1 + 1 ≡ line = omega arith in
-    let other : line - 1 + shift + 1 ≡ line + shift = omega arith in
-    let here : c.differ.result ≡ not (same_row (row_at rows line) (row_at rows (line + shift))) =
-    c.differ.ensures.differ ∙ ap₂ (λ n m. not (same_row (row_at c.loop-line.rows n) (row_at c.loop-line.rows m))) one other
-    ∙ ap (λ l. not (same_row (row_at l line) (row_at l (line + shift)))) kept.stay in
+    let known = c.known-start.ensures in
+    let first = c.push_compared-first.ensures in
+    let last = c.push_compared.ensures in
+    let still : (k : ℕ) → same_row (row_at c.push_compared-first.new.rows k) (row_at c.push_compared-first.new.rows (k + shift)) ≡ same_row (row_at rows k) (row_at rows (k + shift)) =
+    λ k. ap (λ l. same_row (row_at l k) (row_at l (k + shift))) first.stay in
     record {
-      stay = c.differ.ensures.stay ∙ kept.stay;
-      few = elim c.if-differ.branch [
-        | then-differ w ↦ rw w.changed-is (omega (arith, w.push.ensures.len, kept.few))
-        | else-differ w ↦ rw w.changed-is (omega (arith, kept.few))
-      ];
+      stay = last.stay ∙ first.stay;
+      few = last.few;
       changed = λ p each so_far.
-          passing_more p line c.differ.result c.loop-line.changed.items c.if-differ.changed.items low (here ∙ sym (each line (omega arith) (omega arith)))
-          (kept.changed p (λ k from below. each k from (omega arith)) so_far)
-          (elim c.if-differ.branch [
-            | then-differ w ↦ rw (w.changed-is, w.if-differ.true) w.push.ensures.items
-            | else-differ w ↦ rw (w.changed-is, w.if-differ.false) (sym (append-nil c.loop-line.changed.items))
-          ]);
+          last.changed p (λ k low high. each k (omega (arith, low, known.low, known.apart)) high ∙ ap not (sym (still k)))
+          (c.push_all.ensures.changed p
+          (λ k low high. each k (omega (arith, low, known.low)) (omega (arith, high, known.high)) ∙ ap not (known.differ rows c.requires.known k low high))
+          (first.changed p (λ k low high. each k low (omega (arith, high, known.apart, known.high))) so_far));
+      differ = λ k from below. sym (still k) ∙ last.differ k from below;
     }
