@@ -56,7 +56,7 @@ unlisted (x ∷ xs) k none (inl e) = absurd (false≢true (sym (or_parts (nat_eq
 unlisted {P = P} (x ∷ xs) k none (inr p) = unlisted {P = P} xs k (or_parts (nat_eq x k) (list_any (λ n. nat_eq n k) xs) none).1 p
 
 -- a number is among these, or what holds where it isn't
-listed_or : {P : Type 0} (lines : List ℕ) (k : ℕ) → (list_any (λ n. nat_eq n k) lines ≡ false → P) → IsIn lines k P
+pub listed_or : {P : Type 0} (lines : List ℕ) (k : ℕ) → (list_any (λ n. nat_eq n k) lines ≡ false → P) → IsIn lines k P
 listed_or [] k p = p refl
 listed_or {P = P} (x ∷ xs) k p = elim (cases_eq k x) [
   | inl e ↦ inl e

@@ -16,6 +16,7 @@ pub record IsMoved (moved : Moved) (one other : Still) : Type 0 where
   pub low : moved.up < moved.from + moved.down
   pub high : moved.end + moved.down ≤ line_count + 1 + moved.up
   pub down : moved.down ≤ line_count
+  pub last : moved.end ≤ line_count + 1
   pub rows : (line : ℕ) → moved.from ≤ line → line < moved.end → row_at one.rows line ≡ row_at other.rows (line + moved.down - moved.up)
 
 -- so it is whatever the screens show
@@ -29,3 +30,7 @@ TellsWent rise moved = (earlier later : Still) → IsRise rise earlier later →
 -- .. or the other way round
 abbrev pub TellsCame : Rise → Moved → Type 0
 TellsCame rise moved = (earlier later : Still) → IsRise rise earlier later → IsMoved moved later earlier
+
+-- where there are such lines behind a line, it's one of them, and stands on the other screen from a line on
+abbrev pub LeadsOn : Moved → ℕ → ℕ → Type 0
+LeadsOn moved line next = line < moved.end → (moved.from ≤ line) × (next + moved.up ≤ line + moved.down)

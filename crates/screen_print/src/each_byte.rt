@@ -59,7 +59,7 @@ use crate::find_lines::{Chunk, put_found};
 use crate::fresh::play_quietly;
 use crate::key::{Key, Keys};
 use crate::laws::nowhere_means_nowhere;
-use crate::moved::{Moved, Rise};
+use crate::moved::Rise;
 use crate::quiet::stays;
 use crate::seen::{is_vain, place_seen, stands_still};
 use crate::silent::play_all;
@@ -934,11 +934,12 @@ fn put_changed<W: Write>(
     ) {
         return;
     }
+    let rise = Rise::of(before, after, lines);
     let pair = Pair {
         one: before,
         other: after,
         lines,
-        moved: Moved::none(),
+        moved: rise.went(),
     };
     put_less(b'~', chunk, sought, &pair, Some(ends), writer);
 }

@@ -11,6 +11,7 @@ mod free;
 mod fresh;
 mod key;
 pub mod laws;
+mod lost;
 mod moved;
 mod plain_print;
 mod quiet;

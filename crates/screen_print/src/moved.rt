@@ -31,7 +31,8 @@ pub(crate) struct Rise {
 impl Moved {
     /// No lines.
     pub(crate) fn none() -> Self
-        ensures { AreAnyLines result }
+        ensures lines { AreAnyLines result }
+        ensures none { result.end ≡ 1 }
     {
         Moved {
             from: 1,

@@ -1,31 +1,11 @@
 use Rattle.std.proofs.Common.{◌≡◌, ◌+◌, ◌-◌, ◌++◌, ◌∙◌, [], ap, arith, cond, inl, inr, length, subst, sym, true}
 use Rattle.std.specs.List.{flat_map}
-use Rattle.std.proofs.lemmas.Bool.{cases_lt, eqb-true}
+use Rattle.std.proofs.lemmas.Bool.{cases_lt}
 use Rattle.tape_core.specs.Devices.{Gave}
 use Rattle.screen_print.specs.ByLine.{AreLost, begins_on, place_line, places_above, places_to, row_on, stands_at_no_end}
 use Rattle.screen_print.specs.FindLines.{found_line, place_in}
 use Rattle.screen_print.proofs.ByLineLemmas.{apart_is_no_less, column_next, not_kept, quiet_behind}
 use Rattle.screen_print.proofs.by_line.put_line.Goals as goal
-
-pub returns-then-is_empty : goal.returns-then-is_empty
-returns-then-is_empty g c =
-    let text = c.args.sought.now.text.now in
-    let one = c.args.pair.now.one.now in
-    let other = c.args.pair.now.other.now in
-    let chunk = c.args.chunk.now in
-    let line = c.args.line in
-    let row = row_on one line in
-    let write = found_line c.args.sign chunk.index chunk.due chunk.len one in
-    let keep = stands_at_no_end text c.args.ends in
-    let f = place_line text one other write keep (places_above text one line) in
-    let lost = c.args.lost.now.places.items in
-    let none : length lost ≡ 0 = eqb-true (length lost) 0 (sym c.is_empty.ensures ∙ c.if-is_empty.true) in
-    subst (Gave g.W.Write.contents c.args.writer.now c.args.writer.now)
-    (sym (quiet_behind text one line 0 (length row) f (omega arith)
-    (λ column low high begins.
-    apart_is_no_less text one other write keep line c.args.lost.now.next column lost c.sound.ensures.whole c.requires.low c.requires.lost.there_low c.requires.lost.there_high (omega arith) high begins
-    c.requires.lost (λ k d lt. absurd (omega (arith, lt, none))))))
-    (c.gives_join.ensures.nothing c.args.writer.now)
 
 pub returns-then-near-last : goal.returns-then-near-last
 returns-then-near-last g c =

@@ -29,7 +29,7 @@ put_less-requires-clause-lines g c =
     subst (λ (s : Still). DifferIn c.args.lines.now c.args.before.now s) (sym c.requires.after) c.requires.changed.others
 
 pub put_less-requires-clause-moved : goal.put_less-requires-clause-moved
-put_less-requires-clause-moved g c = c.none.ensures c.args.before.now c.args.after.now
+put_less-requires-clause-moved g c = c.went.ensures c.args.before.now c.args.after.now c.of-rise.ensures.rise
 
 pub returns : goal.returns
 returns g c =

@@ -7,6 +7,7 @@ returns c = λ earlier later rise. record {
   low = omega arith;
   high = omega arith;
   down = omega arith;
+  last = omega arith;
   rows = λ line low high.
       let there : line + c.args.self.far ≡ line + c.args.self.far - 0 = omega arith in
       rise.rows line low (omega arith) ∙ ap (row_at earlier.rows) there;

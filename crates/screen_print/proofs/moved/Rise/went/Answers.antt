@@ -7,6 +7,7 @@ returns c = λ earlier later rise. record {
   low = omega arith;
   high = omega arith;
   down = omega arith;
+  last = omega arith;
   rows = λ line low high.
       let far = c.args.self.far in
       let back : line - far + far ≡ line = omega arith in

@@ -1,5 +1,5 @@
 use Rattle.screen_print.proofs.ByLineLemmas.{lost_nothing}
-use Rattle.screen_print.proofs.by_line.push_lost.Goals as goal
+use Rattle.screen_print.proofs.lost.push_lost.Goals as goal
 
 pub returns-then-is_bare : goal.returns-then-is_bare
 returns-then-is_bare c =

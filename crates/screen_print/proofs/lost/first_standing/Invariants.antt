@@ -1,6 +1,6 @@
 use Rattle.std.proofs.Common.{◌≡◌, ℕ, ◌<◌, ◌≤◌, false}
 use Rattle.screen_print.specs.ByLine.{begins_on}
-use Rattle.screen_print.proofs.by_line.first_standing.Given as goal
+use Rattle.screen_print.proofs.lost.first_standing.Given as goal
 
 -- in the columns so far the text doesn't stand
 abbrev pub invariant-loop-column : goal.invariant-loop-column

@@ -1,6 +1,6 @@
 use Rattle.std.proofs.Common.{◌+◌}
 use Rattle.screen_print.specs.ByLine.{AreKept}
-use Rattle.screen_print.proofs.by_line.first_lost.Given as goal
+use Rattle.screen_print.proofs.lost.first_lost.Given as goal
 
 -- the places in the columns so far are kept
 abbrev pub invariant-loop-at : goal.invariant-loop-at

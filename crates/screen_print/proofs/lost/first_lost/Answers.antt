@@ -1,6 +1,6 @@
 use Rattle.std.proofs.Common.{arith}
 use Rattle.screen_print.proofs.ByLineLemmas.{front_kept, kept_more}
-use Rattle.screen_print.proofs.by_line.first_lost.Goals as goal
+use Rattle.screen_print.proofs.lost.first_lost.Goals as goal
 
 pub loop-at-init : goal.loop-at-init
 loop-at-init c = λ column low high within begins.

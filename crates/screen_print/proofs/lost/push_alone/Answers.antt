@@ -1,7 +1,7 @@
 use Rattle.std.proofs.Common.{◌+◌, arith, subst, sym}
 use Rattle.screen_print.specs.ByLine.{AreLost}
 use Rattle.screen_print.proofs.ByLineLemmas.{lost_alone, lost_nothing}
-use Rattle.screen_print.proofs.by_line.push_alone.Goals as goal
+use Rattle.screen_print.proofs.lost.push_alone.Goals as goal
 
 pub returns-then-column-columns : goal.returns-then-column-columns
 returns-then-column-columns c =

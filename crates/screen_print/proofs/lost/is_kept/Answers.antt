@@ -1,7 +1,7 @@
 use Rattle.std.proofs.Common.{◌∙◌, ◌-◌, ap, arith, sym, take}
 use Rattle.std.proofs.lemmas.List.{take-take}
 use Rattle.screen_print.specs.ByLine.{row_on}
-use Rattle.screen_print.proofs.by_line.is_kept.Goals as goal
+use Rattle.screen_print.proofs.lost.is_kept.Goals as goal
 
 pub returns : goal.returns
 returns c = λ stands begins.

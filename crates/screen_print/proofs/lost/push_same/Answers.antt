@@ -1,7 +1,7 @@
 use Rattle.std.proofs.Common.{◌+◌, arith, length}
 use Rattle.screen_print.specs.ByLine.{row_on}
 use Rattle.screen_print.proofs.ByLineLemmas.{ended_kept, lost_no_more}
-use Rattle.screen_print.proofs.by_line.push_same.Goals as goal
+use Rattle.screen_print.proofs.lost.push_same.Goals as goal
 
 pub returns-then-ends_its_line : goal.returns-then-ends_its_line
 returns-then-ends_its_line c =
