@@ -580,6 +580,18 @@ so_past text still line left past =
     sym (and_left (nat_lt (length chars) (length row)) (pointwise nat_eq (take (length chars) row) chars && begins_on text still line (length chars + 1))
     (le-ltb (length chars) (length row) (omega (arith, past, length-map left read))))
 
+pub so_none : (text : List ℕ) (still : Still) (line : ℕ) (left : List Cell) → begins_on text still line (length left + 1) ≡ false
+    → false ≡ stands_so text still line (characters left)
+unfolding stands_so
+so_none text still line left none =
+    let read : Cell → ℕ = λ cell. character cell.glyph in
+    let row = row_on still line in
+    let chars = characters left in
+    let long : length chars ≡ length left = length-map left read in
+    sym (and_right (nat_lt (length chars) (length row)) (pointwise nat_eq (take (length chars) row) chars && begins_on text still line (length chars + 1))
+    (and_right (pointwise nat_eq (take (length chars) row) chars) (begins_on text still line (length chars + 1))
+    (ap (λ n. begins_on text still line (n + 1)) long ∙ none)))
+
 pub so_unlike : (text : List ℕ) (still : Still) (line : ℕ) (cells left : List Cell) → characters cells ≡ row_on still line
     → (take (length left) (characters cells) ≡ take (length left) (characters left) → ⊥) → false ≡ stands_so text still line (characters left)
 unfolding stands_so

@@ -466,6 +466,21 @@ fn stands_behind(
     stands(sought, still, line, place.column)
 }
 
+/// Whether the text may stand at a column of a line with these cells, as its first character tells.
+#[inline(always)]
+fn may_stand(sought: &Sought<'_>, still: &Still, line: u8, cells: &[Cell], column: u8) -> bool
+    requires start { IsStart sought.now.text.now sought.now.start.now }
+    requires low { 1 ≤ line }
+    requires high { line ≤ LINES }
+    requires left { 1 ≤ column }
+    requires right { column ≤ length cells.now }
+    requires cells { characters cells.now ≡ row_on still.now line }
+    ensures { result ≡ false → begins_on sought.now.text.now still.now line column ≡ false }
+{
+    still.sound();
+    sought.start.may_begin_at(cells[column as usize - 1])
+}
+
 /// Whether a text stands in a line with this to the left.
 fn stands_so(sought: &Sought<'_>, still: &Still, line: u8, left: &[Cell]) -> bool
     requires start { IsStart sought.now.text.now sought.now.start.now }
@@ -477,6 +492,9 @@ fn stands_so(sought: &Sought<'_>, still: &Still, line: u8, left: &[Cell]) -> boo
     let cells = still.cells(line);
     let at = left.len();
     if at >= cells.len() {
+        return false;
+    }
+    if !may_stand(sought, still, line, cells, at as u8 + 1) {
         return false;
     }
     if alike_len(cells, left) < at {

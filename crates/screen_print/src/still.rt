@@ -1,9 +1,10 @@
 //! What stands on a screen, copied, and in which lines another screen differs from it.
 
-ghost use Rattle.std.specs.Prelude.{◌≡◌, ◌≤◌, ℕ, length, true, false};
-ghost use Rattle.vt_screen.specs.Cells.{row_at};
+ghost use Rattle.std.specs.Prelude.{◌≡◌, ◌≤◌, ◌<◌, ℕ, length, true, false};
+ghost use Rattle.vt_screen.specs.Cells.{blank, row_at};
 ghost use Rattle.vt_screen.specs.Picture.{SoundRow};
-ghost use Rattle.vt_screen.specs.Touched.{Told as ScreenTold};
+ghost use Rattle.vt_screen.specs.Table.{nth};
+ghost use Rattle.vt_screen.specs.Touched.{Told as ScreenTold, is_touched};
 ghost use Rattle.screen_print.specs.Cover.{Cover, CoverAll};
 ghost use Rattle.screen_rows.specs.SameRows.{changed_lines, is_changed};
 
@@ -13,12 +14,18 @@ use arrayvec::ArrayVec;
 use screen_rows::{cells_to_margin, same_first, same_row};
 use std::marker::Model;
 use vt_screen::laws::screens_are_sound;
-use vt_screen::limits::{LINES, WIDE_COLUMNS};
+use vt_screen::limits::{LINES, NARROW_COLUMNS, WIDE_COLUMNS};
 use vt_screen::{Cell, Row, Screen};
 use vt_term::Terminal;
 
 /// How many rows a screen has.
 pub(crate) const ROWS: usize = LINES as usize;
+
+/// How many cells a row has.
+const ROW: usize = WIDE_COLUMNS as usize;
+
+/// How many of them a narrow screen shows.
+const NARROW: usize = NARROW_COLUMNS as usize;
 
 /// A copy of what stands on a screen: its columns, its rows, whether it is reversed, and its cursor.
 #[derive(Drop)]
@@ -147,7 +154,11 @@ impl Still {
         requires { Told self.now.rows terminal.now }
         ensures { Cover result.items self.now.rows terminal.now.console.picture.rows }
     {
-        if are_all_touched(terminal.screen()) {
+        let count = touched_count(terminal.screen());
+        if count == 0 {
+            return ArrayVec::new();
+        }
+        if count == LINES {
             return all_lines();
         }
         self.changed_lines(terminal)
@@ -197,7 +208,8 @@ impl Still {
     {
         let screen = terminal.screen();
         screens_are_sound(screen);
-        copy_lines(&mut self.rows, screen, lines);
+        let wide = self.wide || screen.is_wide();
+        copy_rows(&mut self.rows, screen, lines, !wide);
         self.wide = screen.is_wide();
         self.reversed = terminal.modes().reverse_screen;
         (self.line, self.column) = screen.cursor();
@@ -239,14 +251,18 @@ fn all_lines() -> ArrayVec<u8, ROWS>
     lines
 }
 
-/// Whether a screen marks all lines as touched.
-fn are_all_touched(screen: &Screen) -> bool {
+/// How many lines a screen marks as touched. The marks are counted one after the other, and none is kept for another use:
+/// so that takes an instruction each.
+#[inline(never)]
+fn touched_count(screen: &Screen) -> u8
+    ensures { result ≡ 0 → (line : ℕ) → 1 ≤ line → line ≤ LINES
+        → is_touched screen.now.touched line ≡ false }
+{
+    let mut count = 0;
     for line in 1..LINES + 1 {
-        if !screen.is_touched(line) {
-            return false;
-        }
+        count += u8::from(screen.is_touched(line));
     }
-    true
+    count
 }
 
 /// A copy of the screen's rows.
@@ -288,6 +304,53 @@ fn is_changed(rows: &[Row; ROWS], screen: &Screen, line: u8, narrow: bool) -> bo
     ensures { result ≡ is_changed rows.now screen.now.picture.rows line }
 {
     screen.is_touched(line) && !same_row(&rows[line as usize - 1], screen.row(line), narrow)
+}
+
+/// Copies the rows of these lines from the screen. Rows of narrow screens are blank right of column 80, and aren't copied
+/// there.
+fn copy_rows(rows: &mut [Row; ROWS], screen: &Screen, lines: &[u8], narrow: bool)
+    requires lines { Cover lines.now rows.old screen.now.picture.rows }
+    requires here { narrow ≡ true → screen.now.picture.wide ≡ false }
+    requires there { narrow ≡ true → (k : ℕ) → SoundRow false (row_at rows.old k) }
+    ensures { rows.new ≡ screen.now.picture.rows }
+{
+    if narrow {
+        copy_narrow_lines(rows, screen, lines);
+    } else {
+        copy_lines(rows, screen, lines);
+    }
+}
+
+/// The same of narrow screens.
+fn copy_narrow_lines(rows: &mut [Row; ROWS], screen: &Screen, lines: &[u8])
+    requires lines { Cover lines.now rows.old screen.now.picture.rows }
+    requires here { screen.now.picture.wide ≡ false }
+    requires there { (k : ℕ) → SoundRow false (row_at rows.old k) }
+    ensures { rows.new ≡ screen.now.picture.rows }
+{
+    screens_are_sound(screen);
+    for line in lines {
+        copy_narrow(&mut rows[*line as usize - 1], screen.row(*line));
+    }
+}
+
+/// A row of a narrow screen becomes another one.
+fn copy_narrow(row: &mut Row, other: &Row)
+    requires old { SoundRow false row.old }
+    requires other { SoundRow false other.now }
+    ensures { row.new ≡ other.now }
+{
+    row.size = other.size;
+    copy_front(&mut row.cells, &other.cells);
+}
+
+/// Cells become others, where right of column 80 they are the same.
+fn copy_front(cells: &mut [Cell; ROW], others: &[Cell; ROW])
+    requires { (column : ℕ) → NARROW_COLUMNS < column
+        → nth blank cells.old column ≡ nth blank others.now column }
+    ensures { cells.new ≡ others.now }
+{
+    cells[..NARROW].copy_from_slice(&others[..NARROW]);
 }
 
 /// Copies the rows of these lines from the screen.

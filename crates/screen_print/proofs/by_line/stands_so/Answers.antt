@@ -1,7 +1,7 @@
 use Rattle.std.proofs.Common.{◌∙◌, ap, arith, length, sym, take}
 use Rattle.std.proofs.lemmas.List.{take-take}
 use Rattle.screen_rows.specs.RowText.{characters}
-use Rattle.screen_print.proofs.ByLineLemmas.{so_alike, so_past, so_unlike}
+use Rattle.screen_print.proofs.ByLineLemmas.{so_alike, so_none, so_past, so_unlike}
 use Rattle.screen_print.proofs.by_line.stands_so.Goals as goal
 
 pub returns-then-at-cells : goal.returns-then-at-cells
@@ -13,6 +13,10 @@ returns-then-alike_len-at c =
     let left = c.args.left.now in
     so_unlike c.args.sought.now.text.now c.args.still.now c.args.line c.cells-cells.result.now left c.cells-cells.ensures.text
     (c.alike_len.ensures.most (length left) (omega arith) (omega arith))
+
+pub returns-then-not-may_stand : goal.returns-then-not-may_stand
+returns-then-not-may_stand c =
+    so_none c.args.sought.now.text.now c.args.still.now c.args.line c.args.left.now (c.may_stand.ensures c.if-not-may_stand.true)
 
 pub returns : goal.returns
 returns c =
