@@ -4,6 +4,7 @@
 mod alike;
 mod by_line;
 mod change_lines;
+mod chunk_bytes;
 mod each_byte;
 mod escaped_print;
 mod find_lines;

@@ -4,7 +4,7 @@ ghost use Rattle.std.specs.Prelude.{◌≡◌, ◌<◌, ◌≤◌, [], length, t
 ghost use Rattle.vt_term.specs.Seen.{Shows};
 ghost use Rattle.vt_term.specs.Term.{Term, play, sent};
 
-use crate::each_byte::step;
+use crate::chunk_bytes::step;
 use crate::fresh::waiting_len;
 use crate::skim::{is_ground, run};
 use vt_parser::laws::ground_is_empty;

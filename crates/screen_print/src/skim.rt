@@ -8,7 +8,7 @@ ghost use Rattle.vt_term.specs.Seen.{Shows, Told};
 ghost use Rattle.vt_term.specs.Term.{Term, play, sent};
 ghost use Rattle.screen_print.specs.Skim.{IsCalm, IsKeyed, IsMute, IsPlain, IsRunning, LacksUpTo, ScreenLacks, is_text};
 
-use crate::each_byte::step;
+use crate::chunk_bytes::step;
 use crate::free::free_len;
 use crate::key::{Key, is_text};
 use vt_parser::ParserState;

@@ -2,7 +2,7 @@ use Rattle.std.proofs.Common.{◌≡◌, ℕ, List, [], ◌++◌, ◌∙◌, ap,
 use Rattle.std.specs.List.{flat_map, range_with_len}
 use Rattle.tape_core.specs.Devices.{Gave}
 use Rattle.vt_term.specs.Term.{play}
-use Rattle.screen_print.specs.declared.each_byte.Played.{Played}
+use Rattle.screen_print.specs.declared.chunk_bytes.Played.{Played}
 use Rattle.screen_print.specs.EachByte.{byte_lines, still_within}
 use Rattle.screen_print.specs.FindLines.{find_text, less_lines, standing}
 use Rattle.screen_print.specs.Cover.{Cover}
@@ -10,7 +10,7 @@ use Rattle.screen_print.specs.ByLine.{DifferIn}
 use Rattle.screen_print.specs.Stills.{Still, still_of}
 use Rattle.screen_print.proofs.ByLineLemmas.{differ_back}
 use Rattle.screen_print.proofs.EachByteLemmas.{bytes_are, first_is, last_is, less_is, nothing_less, still_shown}
-use Rattle.screen_print.proofs.each_byte.put_chunk.Goals as goal
+use Rattle.screen_print.proofs.chunk_bytes.put_chunk.Goals as goal
 
 -- the lines in which a terminal differs from a still are those in which what stands on it does
 played_differ : (played : Played) (lines : List ℕ) → played.last.now ≡ still_of played.terminal.now.console

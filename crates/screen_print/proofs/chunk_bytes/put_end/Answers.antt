@@ -1,7 +1,7 @@
 use Rattle.std.proofs.Common.{subst, sym}
 use Rattle.tape_core.specs.Devices.{Gave}
 use Rattle.screen_print.proofs.ByLineLemmas.{less_are}
-use Rattle.screen_print.proofs.each_byte.put_end.Goals as goal
+use Rattle.screen_print.proofs.chunk_bytes.put_end.Goals as goal
 
 pub returns-then-quiet : goal.returns-then-quiet
 returns-then-quiet g c =

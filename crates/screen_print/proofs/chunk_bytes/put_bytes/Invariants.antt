@@ -6,7 +6,7 @@ use Rattle.screen_print.specs.EachByte.{byte_lines}
 use Rattle.screen_print.specs.FindLines.{standing}
 use Rattle.screen_print.specs.Stills.{still_of}
 use Rattle.chunk_walk.proofs.TextLemmas.{texts_from}
-use Rattle.screen_print.proofs.each_byte.put_bytes.Given as goal
+use Rattle.screen_print.proofs.chunk_bytes.put_bytes.Given as goal
 
 -- the bytes so far were played, and their lines have gone out
 abbrev pub invariant-loop-at : goal.invariant-loop-at

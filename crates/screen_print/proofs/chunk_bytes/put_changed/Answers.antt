@@ -6,7 +6,7 @@ use Rattle.screen_print.specs.ByLine.{DifferIn}
 use Rattle.screen_print.specs.Stills.{Still, still_of}
 use Rattle.screen_print.proofs.ByLineLemmas.{passed_are}
 use Rattle.screen_print.proofs.EachByteLemmas.{nothing_passed}
-use Rattle.screen_print.proofs.each_byte.put_changed.Goals as goal
+use Rattle.screen_print.proofs.chunk_bytes.put_changed.Goals as goal
 
 pub returns-then-stays : goal.returns-then-stays
 returns-then-stays g c =

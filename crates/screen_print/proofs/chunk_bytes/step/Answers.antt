@@ -2,7 +2,7 @@ use Rattle.std.proofs.Common.{length, ap, subst, sym, arith}
 use Rattle.vt_term.specs.Console.{IsSafe}
 use Rattle.plays.specs.Sink.{Sink}
 use Rattle.screen_print.proofs.ReplyLemmas.{on_ok_is, replies_are_short}
-use Rattle.screen_print.proofs.each_byte.step.Goals as goal
+use Rattle.screen_print.proofs.chunk_bytes.step.Goals as goal
 
 pub returns-clause-told : goal.returns-clause-told
 returns-clause-told c =

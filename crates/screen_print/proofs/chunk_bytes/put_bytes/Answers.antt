@@ -10,7 +10,7 @@ use Rattle.screen_print.specs.Stills.{Still}
 use Rattle.screen_print.proofs.EachByteLemmas.{byte_is, play_more, shows_start}
 use Rattle.screen_print.proofs.FindLemmas.{first_more}
 use Rattle.screen_print.proofs.KeptLemmas.{bytes_kept, shows_on}
-use Rattle.screen_print.proofs.each_byte.put_bytes.Goals as goal
+use Rattle.screen_print.proofs.chunk_bytes.put_bytes.Goals as goal
 
 pub loop-at-init : goal.loop-at-init
 loop-at-init g c = record {
