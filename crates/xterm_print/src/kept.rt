@@ -30,8 +30,8 @@ pub struct KeptRows {
     pub changed: ArrayVec<u16, ROWS>,
 }
 
-/// A copy of the cells of a row. Behind so many all are blank; at a place it was seen to differ from the row that it came
-/// up over, and mostly does so still.
+/// A copy of the cells of a row. Behind so many all are blank; at a place it was seen to differ from another row, and mostly
+/// differs there from the next one too.
 #[derive(Drop)]
 pub struct KeptRow {
     cells: Vec<Cell>,
@@ -86,7 +86,7 @@ impl KeptRow {
         self.place_apart(cells, used).is_none()
     }
 
-    /// A place where its cells differ from these, behind so many of which all are blank, if there is one.
+    /// A place up to which its cells are the same as these, behind so many of which all are blank, if some differ.
     fn place_apart(&self, cells: &[Cell], used: usize) -> Option<usize>
         requires { IsUsed cells.now used }
         ensures same { is_none result ≡ same_row self.now cells.now }
@@ -97,6 +97,9 @@ impl KeptRow {
         if self.cells.len() != cells.len() {
             return Some(0);
         }
+        if self.differs_still(cells) {
+            return Some(0);
+        }
         let end = end_of(self.used.max(used), cells.len());
         let at = same_up_to(self.cells.as_slice(), cells, end);
         if at == end {
@@ -105,21 +108,29 @@ impl KeptRow {
         Some(place_from(self.cells.as_slice(), cells, at, end))
     }
 
-    /// A place where its cells differ from those of another row, if there is one.
+    /// A place up to which its cells are the same as those of another row, if some differ.
     pub(crate) fn place_apart_from(&self, other: &KeptRow) -> Option<usize>
         ensures { is_none result ≡ same_row self.now other.now }
     {
         self.place_apart(other.cells.as_slice(), other.used)
     }
 
-    /// Whether its cells differ from those of another row at a place.
-    pub(crate) fn differs_at(&self, other: &KeptRow, at: usize) -> bool
-        ensures { result ≡ true → same_row self.now other.now ≡ false }
+    /// Whether its cells differ from these at the place where it was seen to differ.
+    fn differs_still(&self, cells: &[Cell]) -> bool
+        ensures { result ≡ true → same_row self.now cells.now ≡ false }
     {
-        if self.cells.len() != other.cells.len() || self.cells.len() <= at {
+        let at = self.apart;
+        if self.cells.len() != cells.len() || cells.len() <= at {
             return false;
         }
-        !same_cell(self.cells[at], other.cells[at])
+        !same_cell(self.cells[at], cells[at])
+    }
+
+    /// Whether its cells differ from those of another row at the place where it was seen to differ.
+    pub(crate) fn differs_still_from(&self, other: &KeptRow) -> bool
+        ensures { result ≡ true → same_row self.now other.now ≡ false }
+    {
+        self.differs_still(other.cells.as_slice())
     }
 
     /// Becomes the same as these cells, behind so many of which all are blank, and tells whether it wasn't.
@@ -136,9 +147,16 @@ impl KeptRow {
             let end = end_of(self.used.max(used), cells.len()).max(from);
             copy_between(self.cells.as_mut_slice(), cells, from, end);
             self.used = used;
+            self.apart = seen_apart(from, self.apart);
         }
         true
     }
+}
+
+/// The place to look at first from now on, where rows were the same up to one: that one, or the one before where it is the
+/// first, which may not have been looked at.
+fn seen_apart(same: usize, before: usize) -> usize {
+    if same > 0 { same } else { before }
 }
 
 /// Where the cells end that are compared, of which so many are in use: they are compared together.

@@ -202,7 +202,7 @@ fn differ(rows: &mut [KeptRow], place: usize, other: usize) -> bool
     ensures differ { result ≡ not (same_row (row_at rows.old (place + 1)) (row_at rows.old (other + 1))) }
 {
     let (row, moved) = (&rows[place], &rows[other]);
-    if row.differs_at(moved, row.apart) {
+    if row.differs_still_from(moved) {
         return true;
     }
     let Some(apart) = row.place_apart_from(moved) else {

@@ -15,6 +15,14 @@ returns-then-len-cells c = record {
   within = omega arith;
 }
 
+pub returns-then-differs_still : goal.returns-then-differs_still
+returns-then-differs_still c = record {
+  same = sym (c.differs_still.ensures c.if-differs_still.true);
+  equal = λ is. absurd (cc);
+  agree = λ k low high. absurd (omega (arith, low, high));
+  within = omega arith;
+}
+
 pub returns-then-at-end : goal.returns-then-at-end
 returns-then-at-end c =
     let row = c.self.inside.cells.items in
