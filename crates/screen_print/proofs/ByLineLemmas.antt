@@ -1,11 +1,11 @@
 -- Where a text stands line by line, and what of it is less on another screen.
-use Rattle.std.proofs.Common.{◌≡◌, ℕ, zero, suc, ◌+◌, ◌-◌, ◌<◌, ◌≤◌, Bool, true, false, List, [], ◌∷◌, ◌++◌, ◌&&◌, max, length, get_or, set, take, drop, nat_eq, nat_le, nat_lt, refl, ap, sym, ◌∙◌, subst, arith, append_assoc, append-nil, cond, inl, inr}
+use Rattle.std.proofs.Common.{◌≡◌, ℕ, zero, suc, ◌+◌, ◌-◌, ◌<◌, ◌≤◌, Bool, true, false, List, [], ◌∷◌, ◌++◌, ◌&&◌, max, length, get_or, replicate, set, take, drop, nat_eq, nat_le, nat_lt, refl, ap, sym, ◌∙◌, subst, arith, append_assoc, append-nil, cond, inl, inr}
 use Rattle.std.specs.Cmp.Lexicographic.{pointwise}
 use Rattle.std.specs.List.{All, count_by, flat_map, list_any, range_with_len}
 use Rattle.std.proofs.lemmas.Bool.{and_from, and_left, and_parts, and_right, eq-eqb, false≢true, or_from, or_parts, cases_Bool, cases_eq, cases_lt, false_from_ne_true, le-leb, le-ltb, lt-leb, lt-ltb, ltb-true, ne_eqb}
 use Rattle.std.proofs.lemmas.Bool.Decides.{Decides-eqb}
 use Rattle.std.proofs.lemmas.Slice.Eq.{slice_eq-Decides}
-use Rattle.std.proofs.lemmas.List.{get_or_append_left, get_or_push, get_or-map, get_or-set_other, get_or-set_same, get_or-take, length-append, length-map, length-take, length-take-le, length_push, drop-map, take-append-le, take-map, take-take, take_all, take_at}
+use Rattle.std.proofs.lemmas.List.{get_or_append_left, get_or_push, get_or-map, get_or-replicate, get_or-set_other, get_or-set_same, get_or-take, length-append, length-map, length-take, length-take-le, length_push, drop-map, take-append-le, take-map, take-take, take_all, take_at}
 use Rattle.std.proofs.Math.Seq.{take-add}
 use Rattle.std.proofs.lemmas.List.Concat.{flat_map-append}
 use Rattle.std.proofs.lemmas.List.Elements.{All-nil, All-push}
@@ -14,7 +14,7 @@ use Rattle.vt_screen.specs.declared.cell.Cell.{Cell}
 use Rattle.screen_rows.specs.Glyphs.{character}
 use Rattle.screen_rows.specs.RowText.{characters, row_text}
 use Rattle.screen_print.specs.declared.standing.Place.{Place}
-use Rattle.screen_print.specs.ByLine.{AreCommon, AreKept, AreLost, DifferIn, IsApart, IsCommon, IsKept, IsOnScreen, NonePasses, begins_on, count_above, lines_by, place_line, places_above, places_to, row_on, stands_so}
+use Rattle.screen_print.specs.ByLine.{AreKept, AreKnown, AreLost, DifferIn, IsApart, IsCommon, IsKept, IsKnown, IsOnScreen, NonePasses, begins_on, count_above, lines_by, place_line, places_above, places_to, row_on, stands_so}
 use Rattle.screen_print.specs.EachByte.{is_lone, passed_lines}
 use Rattle.screen_print.specs.FindLines.{begins, count_left, ends_line, found_line, left_of, less_lines, line_text_from, place_in, places_from, row_texts, standing}
 use Rattle.screen_print.specs.Stills.{Still}
@@ -660,16 +660,33 @@ in_common row cells other len is same most n high =
           ∙ sym (le-leb n len le)
     ]
 
--- a line more
-pub common_more : (still : Still) (line : ℕ) (these lens : List ℕ) (len : ℕ) → 1 ≤ line → line ≤ length lens → IsCommon (row_on still line) these len
-    → AreCommon still line these lens → AreCommon still (line + 1) these (set lens (line - 1) len)
-common_more still line these lens len low high here before k from to = elim (cases_eq k line) [
-  | inl e ↦ subst (λ m. IsCommon (row_on still m) these (get_or (set lens (line - 1) len) (m - 1) 0)) (sym e)
-      (subst (IsCommon (row_on still line) these) (sym (get_or-set_same lens (line - 1) len 0 (omega arith))) here)
+-- a line that was compared
+pub known_set : (still : Still) (end line : ℕ) (these lens : List ℕ) (len : ℕ) → 1 ≤ line → line ≤ length lens → IsKnown (row_on still line) these len
+    → AreKnown still end these lens → AreKnown still end these (set lens (line - 1) len)
+known_set still end line these lens len low high here before k from to = elim (cases_eq k line) [
+  | inl e ↦ subst (λ m. IsKnown (row_on still m) these (get_or (set lens (line - 1) len) (m - 1) 0)) (sym e)
+      (subst (IsKnown (row_on still line) these) (sym (get_or-set_same lens (line - 1) len 0 (omega arith))) here)
   | inr ne ↦
-      subst (IsCommon (row_on still k) these) (sym (get_or-set_other lens (line - 1) (k - 1) len 0 (λ e. ne (omega (arith, e, from, low)))))
-      (before k from (omega (arith, to, ne)))
+      subst (IsKnown (row_on still k) these) (sym (get_or-set_other lens (line - 1) (k - 1) len 0 (λ e. ne (omega (arith, e, from, low)))))
+      (before k from to)
 ]
+
+-- none is known
+pub none_known : (still : Still) (end : ℕ) (these : List ℕ) → end ≤ 25 → AreKnown still end these (replicate 24 255)
+none_known still end these high k from to known = absurd (known (get_or-replicate 24 (k - 1) 255 0 (omega arith)))
+
+-- a column at which the text doesn't stand
+pub behind_none : (text : List ℕ) (still : Still) (line : ℕ) (these : List ℕ) (column : ℕ) → 1 ≤ column → column ≤ length these
+    → begins_on text still line column ≡ false → false ≡ stands_so text still line (take (column - 1) these)
+unfolding stands_so
+behind_none text still line these column low high none =
+    let row = row_on still line in
+    let left = take (column - 1) these in
+    let long : length left ≡ column - 1 = length-take-le (column - 1) these (omega arith) in
+    let next : length left + 1 ≡ column = omega (arith, long, low) in
+    sym (and_right (nat_lt (length left) (length row)) (pointwise nat_eq (take (length left) row) left && begins_on text still line (length left + 1))
+    (and_right (pointwise nat_eq (take (length left) row) left) (begins_on text still line (length left + 1))
+    (ap (begins_on text still line) next ∙ none)))
 
 -- a row of which less is in common than stands left of a column
 pub behind_less : (text : List ℕ) (still : Still) (line : ℕ) (these : List ℕ) (len column : ℕ) → 1 ≤ column → column ≤ length these → IsCommon (row_on still line) these len

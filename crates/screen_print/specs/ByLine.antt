@@ -1,5 +1,5 @@
 -- Private: where a text stands line by line, and what of it is less on another screen.
-use Rattle.std.specs.Prelude.{◌≡◌, ℕ, ◌+◌, ◌-◌, ◌<◌, ◌≤◌, ◌&&◌, ◌==◌, Bool, true, false, List, [], IfSome, None, Option, Some, drop, if◌then◌else◌, length, nat_eq, nat_le, nat_lt, slice_index, slice_index_or, take}
+use Rattle.std.specs.Prelude.{◌≡◌, ℕ, ◌+◌, ◌-◌, ◌<◌, ◌≤◌, ◌&&◌, ◌==◌, Bool, true, false, List, [], None, Option, Some, drop, if◌then◌else◌, length, nat_eq, nat_le, nat_lt, slice_index, slice_index_or, take}
 use Rattle.std.specs.Borrow.{Bor}
 use Rattle.std.specs.Cmp.Lexicographic.{pointwise}
 use Rattle.std.specs.List.{All, flat_map, list_any, range_with_len}
@@ -109,11 +109,19 @@ pub record AreLost (text : List ℕ) (one : Still) (line : ℕ) (other : Still) 
 abbrev pub IsCommon : List ℕ → List ℕ → ℕ → Type 0
 IsCommon row these len = (n : ℕ) → n ≤ length these → pointwise nat_eq (take n row) (take n these) ≡ nat_le n len
 
--- so it is with the lines above one
-abbrev pub AreCommon : Still → ℕ → List ℕ → List ℕ → Type 0
-AreCommon still end these lens = (line : ℕ) → 1 ≤ line → line < end → IsCommon (row_on still line) these (slice_index lens (line - 1))
+-- so many, or more than a row has, where it isn't known how many
+abbrev pub IsKnown : List ℕ → List ℕ → ℕ → Type 0
+IsKnown row these len = (len ≡ 255 → ⊥) → IsCommon row these len
 
--- a line's row against all of another screen, and against those above it where that is known
+-- so it is with the lines above one
+abbrev pub AreKnown : Still → ℕ → List ℕ → List ℕ → Type 0
+AreKnown still end these lens = (line : ℕ) → 1 ≤ line → line < end → IsKnown (row_on still line) these (slice_index lens (line - 1))
+
+-- a line's row against all of another screen, and against those above it
 pub record AreFronts (one : Still) (line : ℕ) (other : Still) (fronts : Fronts) : Type 0 where
-  pub above : IfSome fronts.above (λ lens. AreCommon one line (row_on one line) lens)
-  pub there : AreCommon other (line_count + 1) (row_on one line) fronts.there
+  pub above : AreKnown one line (row_on one line) fronts.above
+  pub there : AreKnown other (line_count + 1) (row_on one line) fronts.there
+
+-- so it is whatever the screens show
+abbrev pub AreAnyFronts : Fronts → Type 0
+AreAnyFronts fronts = (one : Still) (line : ℕ) (other : Still) → line ≤ line_count → AreFronts one line other fronts

@@ -20,9 +20,11 @@ ghost use Rattle.std.specs.Prelude.{
 ghost use Rattle.std.specs.List.{flat_map};
 ghost use Rattle.tape_core.specs.Devices.{Gave};
 ghost use Rattle.screen_print.specs.ByLine.{
-  AreCommon,
+  AreAnyFronts,
   AreFronts,
+  AreKnown,
   IsCommon,
+  IsKnown,
   AreLost,
   DifferIn,
   IsApart,
@@ -86,57 +88,27 @@ pub(crate) struct Ends<'a> {
     pub(crate) last: &'a Still,
 }
 
+/// More characters than a row has, where it isn't known how many.
+const UNKNOWN: u8 = 255;
+
 /// How many characters a row of one screen has in common with each line of the other, and with each line above it, once
 /// that was asked for. So what stands left of a column is compared once for all columns.
 #[derive(Drop)]
 struct Fronts {
-    above: Option<[u8; ROWS]>,
+    above: [u8; ROWS],
     there: [u8; ROWS],
 }
 
 impl Fronts {
-    /// Those of a line.
-    fn of(pair: &Pair<'_>, line: u8) -> Self
-        requires low { 1 ≤ line }
-        requires high { line ≤ LINES }
-        ensures { AreFronts pair.now.one.now line pair.now.other.now result }
+    /// Nothing is known.
+    fn none() -> Self
+        ensures { AreAnyFronts result }
     {
-        let there = in_common(pair.one, line, pair.other, LINES + 1);
-        Fronts { above: None, there }
-    }
-
-    /// How many characters the row has in common with each line above it.
-    fn above(&mut self, pair: &Pair<'_>, line: u8) -> [u8; ROWS]
-        requires low { 1 ≤ line }
-        requires high { line ≤ LINES }
-        requires fronts { AreFronts pair.now.one.now line pair.now.other.now self.old }
-        ensures above { AreCommon pair.now.one.now line (row_on pair.now.one.now line) result }
-        ensures fronts { AreFronts pair.now.one.now line pair.now.other.now self.new }
-    {
-        if let Some(above) = self.above {
-            return above;
+        Fronts {
+            above: [UNKNOWN; ROWS],
+            there: [UNKNOWN; ROWS],
         }
-        let above = in_common(pair.one, line, pair.one, line);
-        self.above = Some(above);
-        above
     }
-}
-
-/// How many characters the row of a line has in common with each line of a screen above another one.
-fn in_common(one: &Still, line: u8, still: &Still, end: u8) -> [u8; ROWS]
-    requires low { 1 ≤ line }
-    requires high { line ≤ LINES }
-    requires end_low { 1 ≤ end }
-    requires end_high { end ≤ LINES + 1 }
-    ensures { AreCommon still.now end (row_on one.now line) result }
-{
-    let cells = one.cells(line);
-    let mut common = [0; ROWS];
-    for at in 1..end {
-        let len = alike_len(cells, still.cells(at));
-        common[at as usize - 1] = len as u8;
-    }
-    common
 }
 
 /// Writes the lines of what stands on one screen and is less on the other: where ends are given, of what stands so at
@@ -242,7 +214,7 @@ fn put_line<W: Write>(
     if first > last {
         return;
     }
-    let mut fronts = Fronts::of(pair, line);
+    let mut fronts = Fronts::none();
     let mut column = first;
     while column <= last {
         let place = Place { line, column };
@@ -376,12 +348,18 @@ fn is_less(sought: &Sought<'_>, pair: &Pair<'_>, fronts: &mut Fronts, place: Pla
 {
     pair.other.sound();
     let end = LINES + 1;
-    let there = count_above(sought, pair.other, end, pair.one, place, &fronts.there);
+    let there = count_above(sought, pair.other, end, pair.one, place, &mut fronts.there);
     if there == 0 {
         return true;
     }
-    let above = fronts.above(pair, place.line);
-    let before = count_above(sought, pair.one, place.line, pair.one, place, &above);
+    let before = count_above(
+        sought,
+        pair.one,
+        place.line,
+        pair.one,
+        place,
+        &mut fronts.above,
+    );
     there <= before
 }
 
@@ -414,56 +392,88 @@ fn stands_nowhere(sought: &Sought<'_>, still: &Still, left: &[Cell]) -> bool
     true
 }
 
-/// How often a text stands above a line of a screen with the same to the left as a place of one. Its row has so many
-/// characters in common with each line.
+/// How often a text stands above a line of a screen with the same to the left as a place of one. It may be known how many
+/// characters its row has in common with a line.
 fn count_above(
     sought: &Sought<'_>,
     still: &Still,
     end: u8,
     one: &Still,
     place: Place,
-    common: &[u8; ROWS],
+    common: &mut [u8; ROWS],
 ) -> u8
     requires start { IsStart sought.now.text.now sought.now.start.now }
     requires low { 1 ≤ end }
     requires high { end ≤ LINES + 1 }
     requires place { IsPlace one.now place }
-    requires common { AreCommon still.now end (row_on one.now place.line) common.now }
-    ensures { result ≡ count_above sought.now.text.now still.now end (left_of one.now place) }
+    requires common { AreKnown still.now end (row_on one.now place.line) common.old }
+    ensures count { result ≡ count_above sought.now.text.now still.now end (left_of one.now place) }
+    ensures common { AreKnown still.now end (row_on one.now place.line) common.new }
 {
     let mut count = 0;
     for line in 1..end {
-        if stands_behind(sought, still, line, one, place, common[line as usize - 1]) {
+        if stands_behind(
+            sought,
+            still,
+            line,
+            one,
+            place,
+            &mut common[line as usize - 1],
+        ) {
             count += 1;
         }
     }
     count
 }
 
-/// Whether a text stands in a line of a screen with the same to the left as a place of one, where its row has so many
-/// characters in common with the line.
+/// Whether a text stands in a line of a screen with the same to the left as a place of one, where it may be known how many
+/// characters its row has in common with the line.
 fn stands_behind(
     sought: &Sought<'_>,
     still: &Still,
     line: u8,
     one: &Still,
     place: Place,
-    common: u8,
+    common: &mut u8,
 ) -> bool
     requires start { IsStart sought.now.text.now sought.now.start.now }
     requires low { 1 ≤ line }
     requires high { line ≤ LINES }
     requires place { IsPlace one.now place }
-    requires common { IsCommon (row_on still.now line) (row_on one.now place.line) common }
-    ensures { result ≡ stands_so sought.now.text.now still.now line (left_of one.now place) }
+    requires common { IsKnown (row_on still.now line) (row_on one.now place.line) common.old }
+    ensures stands { result ≡ stands_so sought.now.text.now still.now line (left_of one.now place) }
+    ensures common { IsKnown (row_on still.now line) (row_on one.now place.line) common.new }
 {
-    if common < place.column - 1 {
+    let cells = still.cells(line);
+    if place.column as usize > cells.len() {
         return false;
     }
-    if place.column as usize > still.cells(line).len() {
+    if !may_stand(sought, still, line, cells, place.column) {
+        return false;
+    }
+    let len = common_len(one, place.line, still, line, common);
+    if len < place.column - 1 {
         return false;
     }
     stands(sought, still, line, place.column)
+}
+
+/// How many characters the row of a line has in common with that of a line of a screen. It's compared once.
+fn common_len(one: &Still, here: u8, still: &Still, line: u8, common: &mut u8) -> u8
+    requires here_low { 1 ≤ here }
+    requires here_high { here ≤ LINES }
+    requires low { 1 ≤ line }
+    requires high { line ≤ LINES }
+    requires known { IsKnown (row_on still.now line) (row_on one.now here) common.old }
+    ensures len { IsCommon (row_on still.now line) (row_on one.now here) result }
+    ensures known { IsKnown (row_on still.now line) (row_on one.now here) common.new }
+{
+    if *common != UNKNOWN {
+        return *common;
+    }
+    let len = alike_len(one.cells(here), still.cells(line)) as u8;
+    *common = len;
+    len
 }
 
 /// Whether the text may stand at a column of a line with these cells, as its first character tells.

@@ -1,5 +1,5 @@
-use Rattle.std.proofs.Common.{◌≡◌, ◌<◌}
-use Rattle.screen_print.specs.ByLine.{count_above}
+use Rattle.std.proofs.Common.{◌≡◌, ◌<◌, length}
+use Rattle.screen_print.specs.ByLine.{AreKnown, count_above, row_on}
 use Rattle.screen_print.specs.FindLines.{left_of}
 use Rattle.screen_print.proofs.by_line.count_above.Given as goal
 
@@ -8,4 +8,6 @@ abbrev pub invariant-loop-line : goal.invariant-loop-line
 invariant-loop-line l = record {
   counted : l.count ≡ count_above l.sought.text.now l.still l.line (left_of l.one l.place);
   few : l.count < l.line;
+  whole : length l.common ≡ 24;
+  common : AreKnown l.still l.end (row_on l.one l.place.line) l.common;
 }

@@ -11,7 +11,7 @@ returns-then-there-eq0-clause-less c =
     let pair = c.args.pair.now in
     let place = c.args.place in
     let left = left_of pair.one.now place in
-    let there = c.count_above-there.ensures ∙ count_all text pair.other.now left c.sound.ensures.whole in
+    let there = c.count_above-there.ensures.count ∙ count_all text pair.other.now left c.sound.ensures.whole in
     sym (le-leb (count_left pair.other.now (standing text pair.other.now) left) (count_left pair.one.now (places_above text pair.one.now place.line) left)
     (omega (arith, there, c.if-there-eq0.true)))
 
@@ -21,6 +21,6 @@ returns-clause-less c =
     let pair = c.args.pair.now in
     let place = c.args.place in
     let left = left_of pair.one.now place in
-    let there = c.count_above-there.ensures ∙ count_all text pair.other.now left c.sound.ensures.whole in
-    let before = c.count_above-before.ensures ∙ count_is text pair.one.now place.line left in
+    let there = c.count_above-there.ensures.count ∙ count_all text pair.other.now left c.sound.ensures.whole in
+    let before = c.count_above-before.ensures.count ∙ count_is text pair.one.now place.line left in
     ap (λ n. nat_le n c.count_above-before.result) there ∙ ap (nat_le _) before

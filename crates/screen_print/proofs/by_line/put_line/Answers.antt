@@ -80,7 +80,7 @@ loop-column-init g c =
       within = told.within;
       begins = told.begins;
       alone = told.alone;
-      fronts = c.of-fronts.ensures;
+      fronts = c.none-fronts.ensures one line other (omega arith);
       gave = subst (Gave g.W.Write.contents c.args.writer.now c.args.writer.now)
           (sym (quiet_behind text one line 0 (first - 1) f (omega arith)
           (λ column low high begins. elim (cases_lt column c.reach-near.result.0) [
