@@ -202,7 +202,8 @@ fn count_blocks(places: &[Place], most: usize, above: usize) -> usize
     count
 }
 
-/// Takes the places from one up to and without another out.
+/// Takes the places from one up to and without another out. `drain` turns them about through 4 KB of the stack that it
+/// fills with zeros.
 pub(crate) fn forget(places: &mut Vec<Place>, from: usize, to: usize)
     requires order { from ≤ to }
     requires within { to ≤ length places.old.items }
@@ -210,7 +211,9 @@ pub(crate) fn forget(places: &mut Vec<Place>, from: usize, to: usize)
     ensures count { length places.new.items ≡ from + (length places.old.items - to) }
     ensures room { vec_capacity places.new ≡ vec_capacity places.old }
 {
-    drop(places.drain(from..to));
+    let count = places.len();
+    places.copy_within(to.., from);
+    places.truncate(count - (to - from));
 }
 
 /// The first so many places behind others come last.
