@@ -1,3 +1,4 @@
+mod DecimalLemmas
 mod NumberLemmas
 pub mod PageLemmas
 mod ReadBack

@@ -13,7 +13,8 @@ ghost use Rattle.screen_page.specs.Parts.{IsLine, front_text, line_text};
 ghost use Rattle.held.specs.Held.{Wrote};
 
 use crate::numbered::NumberedRows;
-use crate::rows::{put_comma_number, put_line};
+use crate::numbers::put_comma_number;
+use crate::rows::put_line;
 use arrayvec::ArrayVec;
 use chunk_walk::Visitor;
 use held::{HELD, let_out, put, put_byte};

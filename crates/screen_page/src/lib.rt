@@ -4,9 +4,11 @@
 mod entry_printer;
 pub mod laws;
 mod numbered;
+mod numbers;
 mod page_file;
 mod player;
 mod rows;
 mod title;
 
+pub use numbers::put_comma_number;
 pub use page_file::{page, put_front, put_tail};

@@ -13,6 +13,7 @@ ghost use Rattle.screen_page.specs.EntryText.{comma_number, row_text, run_text, 
 ghost use Rattle.screen_page.specs.Parts.{line_text};
 
 use crate::numbered::NumberedRows;
+use crate::numbers::put_comma_number;
 use arrayvec::ArrayVec;
 use held::{HELD, put, put_byte, put_number};
 use screen_rows::{
@@ -86,31 +87,6 @@ fn put_changed<W: Write>(
 {
     put_comma_number(usize::from(line), held, writer);
     put_row(row, held, writer);
-}
-
-/// Writes a comma and a number. Most have one or two digits.
-#[tactic(auto, using(std::proofs::lemmas::Fmt::decimal_digit, itoa::proofs::Decimal::decimal_two))]
-pub(crate) fn put_comma_number<W: Write>(
-    number: usize,
-    held: &mut ArrayVec<u8, HELD>,
-    writer: &mut Watched<W>,
-)
-    ensures { Wrote W.contents writer.old held.old.items writer.new held.new.items
-        (comma_number number) }
-{
-    if number < 10 {
-        put(&[b',', b'0' + number as u8], held, writer);
-    } else if number < 100 {
-        let number = number as u8;
-        put(
-            &[b',', b'0' + number / 10, b'0' + number % 10],
-            held,
-            writer,
-        );
-    } else {
-        put_byte(b',', held, writer);
-        put_number(number, held, writer);
-    }
 }
 
 /// Writes a row behind a comma.

@@ -6,7 +6,6 @@ pub mod UsedLemmas
 pub mod RenewedLemmas
 pub mod CaughtLemmas
 pub mod MarkLemmas
-pub mod NumberLemmas
 pub mod PageLemmas
 pub mod Replays
 mod ReadLemmas

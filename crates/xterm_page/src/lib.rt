@@ -6,7 +6,6 @@ mod entry_printer;
 mod kept;
 pub mod laws;
 mod moved;
-mod numbers;
 mod page_file;
 mod rows;
 mod same;

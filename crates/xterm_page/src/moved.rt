@@ -6,9 +6,9 @@ ghost use Rattle.held.specs.Held.{Wrote};
 ghost use Rattle.xterm_page.specs.Parts.{AreDigits, come_text};
 
 use crate::kept::Block;
-use crate::numbers::put_comma_number;
 use arrayvec::ArrayVec;
 use held::{HELD, put};
+use screen_page::put_comma_number;
 use std::io::Write;
 use tape_core::Watched;
 

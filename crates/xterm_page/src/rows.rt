@@ -14,9 +14,9 @@ ghost use Rattle.held.specs.Held.{Wrote};
 ghost use Rattle.xterm_page.specs.Plain.{IsPlain, string_of};
 
 use crate::moved::put_moved;
-use crate::numbers::put_comma_number;
 use arrayvec::ArrayVec;
 use held::{HELD, put, put_byte};
+use screen_page::put_comma_number;
 use sheet::Cell;
 use std::io::Write;
 use tape_core::Watched;

@@ -10,8 +10,8 @@ use std::io::Write;
 use tape_core::Watched;
 
 /// Writes a comma and a number. Most have at most three digits.
-#[tactic(auto, using(std::proofs::lemmas::Fmt::decimal_digit, itoa::proofs::Decimal::decimal_two, crate::proofs::NumberLemmas::decimal_three))]
-pub(crate) fn put_comma_number<W: Write>(
+#[tactic(auto, using(std::proofs::lemmas::Fmt::decimal_digit, itoa::proofs::Decimal::decimal_two, crate::proofs::DecimalLemmas::decimal_three))]
+pub fn put_comma_number<W: Write>(
     number: usize,
     held: &mut ArrayVec<u8, HELD>,
     writer: &mut Watched<W>,
