@@ -126,13 +126,6 @@ impl KeptRow {
         !same_cell(self.cells[at], cells[at])
     }
 
-    /// Whether its cells differ from those of another row at the place where it was seen to differ.
-    pub(crate) fn differs_still_from(&self, other: &KeptRow) -> bool
-        ensures { result ≡ true → same_row self.now other.now ≡ false }
-    {
-        self.differs_still(other.cells.as_slice())
-    }
-
     /// Becomes the same as these cells, behind so many of which all are blank, and tells whether it wasn't.
     pub(crate) fn catch_up(&mut self, cells: &[Cell], used: usize) -> bool
         requires { IsUsed cells.now used }
@@ -155,7 +148,7 @@ impl KeptRow {
 
 /// The place to look at first from now on, where rows were the same up to one: that one, or the one before where it is the
 /// first, which may not have been looked at.
-fn seen_apart(same: usize, before: usize) -> usize {
+pub(crate) fn seen_apart(same: usize, before: usize) -> usize {
     if same > 0 { same } else { before }
 }
 

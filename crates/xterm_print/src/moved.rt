@@ -8,7 +8,7 @@ ghost use Rattle.xterm_screen.specs.Picture.{Tells};
 ghost use Rattle.xterm_print.specs.ChangeLines.{is_changed, same_row};
 ghost use Rattle.xterm_print.specs.Kept.{AreApart, FollowLines, Follows};
 
-use crate::kept::{KeptRow, ROWS};
+use crate::kept::{KeptRow, ROWS, seen_apart};
 use arrayvec::ArrayVec;
 use xterm_screen::Screen;
 
@@ -194,7 +194,7 @@ fn push_compared(
     first
 }
 
-/// Whether the rows at two places differ. Where the first one did when it was compared last is looked at first.
+/// Whether the rows at two places differ.
 fn differ(rows: &mut [KeptRow], place: usize, other: usize) -> bool
     requires place { place < length rows.old }
     requires other { other < length rows.old }
@@ -202,14 +202,11 @@ fn differ(rows: &mut [KeptRow], place: usize, other: usize) -> bool
     ensures differ { result ≡ not (same_row (row_at rows.old (place + 1)) (row_at rows.old (other + 1))) }
 {
     let (row, moved) = (&rows[place], &rows[other]);
-    if row.differs_still_from(moved) {
-        return true;
-    }
-    let Some(apart) = row.place_apart_from(moved) else {
+    let Some(same) = row.place_apart_from(moved) else {
         return false;
     };
     let row = &mut rows[place];
-    row.apart = apart;
+    row.apart = seen_apart(same, row.apart);
     true
 }
 

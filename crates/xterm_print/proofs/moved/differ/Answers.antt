@@ -15,13 +15,6 @@ none_found : {X : Type 0} (o : Option X) → ((x : X) → o ≡ Some x → ⊥) 
 none_found (Some x) none = absurd (none x refl)
 none_found None none = refl
 
-pub returns-then-differs_still_from-clause-differ : goal.returns-then-differs_still_from-clause-differ
-returns-then-differs_still_from-clause-differ c =
-    let rows = c.args.rows.now in
-    let one = read rows c.args.place c.index-rows-place.result (omega (arith, c.requires.place)) c.index-rows-place.is in
-    let two = read rows c.args.other c.index-rows-other.result (omega (arith, c.requires.other)) c.index-rows-other.is in
-    sym (ap not (ap₂ (λ (a b : List Cell). same_row a b) one two ∙ c.differs_still_from.ensures c.if-differs_still_from.true))
-
 pub returns-in_default-clause-differ : goal.returns-in_default-clause-differ
 returns-in_default-clause-differ c =
     let rows = c.args.rows.now in
