@@ -1,7 +1,7 @@
 -- Numbers that follow each other by one, and the text that has them all up to 99.
 use Rattle.std.proofs.Common.{◌≡◌, ℕ, zero, suc, ◌+◌, ◌-◌, ◌*◌, ◌<◌, ◌≤◌, List, [], ◌∷◌, ◌++◌, length, get_or, take, drop, refl, ap, ap₂, sym, ◌∙◌, arith, length-append}
 use Rattle.std.proofs.Math.Seq.{drop-append_seam, take-append_seam}
-use Rattle.std.proofs.lemmas.List.{take_more}
+use Rattle.std.proofs.lemmas.List.{length-drop, length-take-le, take_more}
 use Rattle.std.proofs.lemmas.List.Concat.{flat_map-append}
 use Rattle.std.specs.Fmt.{decimal, digits}
 use Rattle.std.specs.List.{flat_map, range_with_len}
@@ -9,6 +9,7 @@ use Rattle.itoa.proofs.Decimal.{length_one, length_two}
 use Rattle.chunk_walk.specs.ChangeLine.{spaced_number}
 use Rattle.chunk_walk.specs.Runs.{run_text}
 use Rattle.chunk_walk.specs.declared.change_line.TheConstants.{SMALL}
+use Rattle.chunk_walk.proofs.ChangeLemmas.{numbers_split}
 use Rattle.chunk_walk.proofs.TextLemmas.{range_split}
 
 -- the text has the numbers up to 99
@@ -44,6 +45,19 @@ run_more written numbers first count number below is text so_far =
     ∙ ap₂ (λ (a b : List ℕ). a ++ ((32 ∷ b) ++ [])) so_far text
     ∙ ap (λ (l : List ℕ). run_text first count ++ l) (sym (run_one (first + count)))
     ∙ sym (run_split first count 1)
+
+-- a run behind a run
+pub run_further : {N : Type 0} (written : N → List ℕ) (numbers : List N) (first count more : ℕ) → count + more ≤ length numbers
+    → flat_map (spaced_number written) (take count numbers) ≡ run_text first count
+    → (let next = take (count + more - count) (drop count numbers) in flat_map (spaced_number written) next ≡ run_text (first + count) (length next))
+    → flat_map (spaced_number written) (take (count + more) numbers) ≡ run_text first (count + more)
+run_further written numbers first count more within so_far next =
+    let here : count + more - count ≡ more = omega arith in
+    let left : count + more - count ≤ length (drop count numbers) = omega (arith, length-drop count numbers) in
+    let long : length (take (count + more - count) (drop count numbers)) ≡ more = length-take-le (count + more - count) (drop count numbers) left ∙ here in
+    numbers_split written numbers count (count + more) (omega arith)
+    ∙ ap₂ (λ (a b : List ℕ). a ++ b) so_far (next ∙ ap (run_text (first + count)) long)
+    ∙ sym (run_split first count more)
 
 -- how long the run from 0 on is
 length_more : (n : ℕ) → length (run_text 0 (n + 1)) ≡ length (run_text 0 n) + 1 + length (decimal n)

@@ -1,6 +1,6 @@
 //! The line that tells which lines of a screen a chunk changes, on whichever terminal.
 
-ghost use Rattle.std.specs.Prelude.{◌≡◌, ◌+◌, ◌-◌, ◌<◌, ◌≤◌, ◌++◌, ◌∷◌, drop, length, take};
+ghost use Rattle.std.specs.Prelude.{◌≡◌, ◌+◌, ◌-◌, ◌<◌, ◌≤◌, ◌++◌, ◌∷◌, drop, length, take, true};
 ghost use Rattle.std.specs.Fmt.{decimal};
 ghost use Rattle.std.specs.List.{flat_map};
 ghost use Rattle.tape_core.specs.Devices.{Gave};
@@ -18,6 +18,9 @@ use tape_core::{Watched, seconds_text};
 
 /// How many numbers are put together at a time.
 const TOGETHER: usize = 8;
+
+/// How many numbers are compared at a time.
+const BLOCK: usize = 16;
 
 /// How many bytes these take at most, each of five digits.
 const ROOM: usize = 48;
@@ -132,11 +135,40 @@ fn run_of<N: LineNumber>(numbers: &[N], first: u64) -> usize
         return 0;
     }
     let most = numbers.len().min(100 - first as usize);
-    let mut count = 0;
+    let mut count = run_blocks(numbers, first as u16, most);
     while count < most && numbers[count].number() == first + count as u64 {
         count += 1;
     }
     count
+}
+
+/// How many of so many first numbers follow each other by one, from this one on, by whole blocks.
+#[inline(always)]
+fn run_blocks<N: LineNumber>(numbers: &[N], first: u16, most: usize) -> usize
+    requires within { most ≤ length numbers.now }
+    requires small { first + most ≤ 100 }
+    ensures within { result ≤ most }
+    ensures run { flat_map (spaced_number N.text) (take result numbers.now) ≡ run_text first result }
+{
+    let mut count = 0;
+    while most - count >= BLOCK && is_run(&numbers[count..count + BLOCK], first + count as u16) {
+        count += BLOCK;
+    }
+    count
+}
+
+/// Whether numbers follow each other by one, from this one on. It looks at all of them with no way out, since that is done
+/// many at a time.
+#[inline(always)]
+fn is_run<N: LineNumber>(numbers: &[N], first: u16) -> bool
+    requires { first + length numbers.now ≤ 100 }
+    ensures { result ≡ true → flat_map (spaced_number N.text) numbers.now ≡ run_text first (length numbers.now) }
+{
+    let mut broken = false;
+    for i in 0..numbers.len() {
+        broken |= numbers[i].number() as u16 != first + i as u16;
+    }
+    !broken
 }
 
 /// The text of so many numbers from one on, a space before each, none above 99.

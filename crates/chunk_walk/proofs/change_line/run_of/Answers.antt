@@ -8,8 +8,8 @@ returns-then-first-ge100-clause-run g c = run_none g.N.Integer.text c.args.numbe
 
 pub loop-count-init : goal.loop-count-init
 loop-count-init g c = record {
-  high = omega arith;
-  run = run_none g.N.Integer.text c.args.numbers.now c.args.first;
+  high = c.run_blocks-count.ensures.within;
+  run = c.run_blocks-count.ensures.run;
 }
 
 pub loop-count-preserved : goal.loop-count-preserved
