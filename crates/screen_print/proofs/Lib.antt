@@ -5,6 +5,7 @@ mod FindLemmas
 mod FoundLemmas
 mod QuietLemmas
 mod ByLineLemmas
+mod FrontLemmas
 mod LostLemmas
 mod ShortLemmas
 mod RunLemmas

@@ -1,6 +1,6 @@
 use Rattle.std.proofs.Common.{◌≡◌, ◌+◌, ◌-◌, ◌∙◌, ap, arith, sym, take}
 use Rattle.screen_rows.specs.RowText.{characters}
-use Rattle.screen_print.proofs.ByLineLemmas.{alike_behind}
+use Rattle.screen_print.proofs.FrontLemmas.{alike_behind}
 use Rattle.screen_print.proofs.alike.same_blocks.Goals as goal
 
 pub loop-at-preserved : goal.loop-at-preserved

@@ -1,6 +1,6 @@
 use Rattle.std.proofs.Common.{subst}
 use Rattle.screen_print.specs.ByLine.{IsCommon, row_on}
-use Rattle.screen_print.proofs.ByLineLemmas.{in_common}
+use Rattle.screen_print.proofs.FrontLemmas.{in_common}
 use Rattle.screen_print.proofs.by_line.common_len.Goals as goal
 
 pub returns-clause-len : goal.returns-clause-len

@@ -2,7 +2,8 @@ use Rattle.std.proofs.Common.{◌-◌, ◌∙◌, arith, false, rules, sym, true
 use Rattle.std.proofs.lemmas.List.{length-set}
 use Rattle.screen_print.specs.FindLines.{left_of}
 use Rattle.screen_print.specs.ByLine.{row_on, stands_so}
-use Rattle.screen_print.proofs.ByLineLemmas.{count_more, count_none, counted, known_set}
+use Rattle.screen_print.proofs.ByLineLemmas.{count_more, count_none, counted}
+use Rattle.screen_print.proofs.FrontLemmas.{known_set}
 use Rattle.screen_print.proofs.by_line.count_above.Goals as goal
 use Rattle.screen_print.proofs.by_line.count_above.Goals.{then-stands_behind, else-stands_behind}
 

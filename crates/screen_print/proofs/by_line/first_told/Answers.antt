@@ -1,7 +1,7 @@
 use Rattle.std.proofs.Common.{◌≡◌, ◌∙◌, ◌-◌, ℕ, Bool, ap, arith, inl, inr, sym, take}
 use Rattle.std.proofs.lemmas.Bool.{and_parts, cases_lt}
 use Rattle.screen_print.specs.ByLine.{begins_on, row_on, stands_at_no_end}
-use Rattle.screen_print.proofs.ByLineLemmas.{not_both}
+use Rattle.screen_print.proofs.FrontLemmas.{not_both}
 use Rattle.screen_print.proofs.by_line.first_told.Goals as goal
 
 pub returns-then-is_told-clause-begins : goal.returns-then-is_told-clause-begins

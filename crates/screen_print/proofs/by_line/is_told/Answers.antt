@@ -2,7 +2,7 @@ use Rattle.std.proofs.Common.{◌∙◌, ◌-◌, ◌&&◌, ap, sym, take}
 use Rattle.std.proofs.lemmas.Bool.{and_left}
 use Rattle.screen_print.specs.ByLine.{begins_on, row_on, stands_at_no_end}
 use Rattle.screen_print.specs.FindLines.{place_in}
-use Rattle.screen_print.proofs.ByLineLemmas.{left_is}
+use Rattle.screen_print.proofs.FrontLemmas.{left_is}
 use Rattle.screen_print.proofs.by_line.is_told.Goals as goal
 
 pub returns-then-not-stands : goal.returns-then-not-stands

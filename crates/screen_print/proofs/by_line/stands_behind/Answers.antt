@@ -1,6 +1,6 @@
 use Rattle.std.proofs.Common.{arith}
 use Rattle.screen_print.specs.ByLine.{row_on}
-use Rattle.screen_print.proofs.ByLineLemmas.{behind_less, behind_none, behind_past, behind_same}
+use Rattle.screen_print.proofs.FrontLemmas.{behind_less, behind_none, behind_past, behind_same}
 use Rattle.screen_print.proofs.by_line.stands_behind.Goals as goal
 
 pub returns-then-place-cells-clause-stands : goal.returns-then-place-cells-clause-stands

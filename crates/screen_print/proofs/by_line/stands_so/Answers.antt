@@ -1,7 +1,7 @@
 use Rattle.std.proofs.Common.{◌∙◌, ap, arith, length, sym, take}
 use Rattle.std.proofs.lemmas.List.{take-take}
 use Rattle.screen_rows.specs.RowText.{characters}
-use Rattle.screen_print.proofs.ByLineLemmas.{so_alike, so_none, so_past, so_unlike}
+use Rattle.screen_print.proofs.FrontLemmas.{so_alike, so_none, so_past, so_unlike}
 use Rattle.screen_print.proofs.by_line.stands_so.Goals as goal
 
 pub returns-then-at-cells : goal.returns-then-at-cells

@@ -1,6 +1,6 @@
 use Rattle.std.proofs.Common.{arith}
 use Rattle.screen_print.specs.ByLine.{row_on}
-use Rattle.screen_print.proofs.ByLineLemmas.{none_known}
+use Rattle.screen_print.proofs.FrontLemmas.{none_known}
 use Rattle.screen_print.proofs.by_line.Fronts.none.Goals as goal
 
 pub returns : goal.returns
