@@ -125,6 +125,29 @@ all_told one other places others alone alones told away n lt pairs right whole =
 
 -- ---- none passes
 
+-- where a third screen has as many with its left part as stand alone
+pub none_gone : (one other first : List Row) (places others firsts alone alones : List Place) (n : ℕ) → n < length places
+    → PairOff one places other others alone alones
+    → count_left one alone (left_of one (place_at places n)) ≤ count_left first firsts (left_of one (place_at places n))
+    → (is_less one places other others n && is_lone first firsts (left_of one (place_at places n))) ≡ false
+none_gone one other first places others firsts alone alones n lt pairs le =
+    let left = left_of one (place_at places n) in
+    elim (cases_Bool (is_less one places other others n)) [
+      | inr kept ↦ rw kept refl
+      | inl less ↦ rw less (ne_eqb (count_left first firsts left) 0 (λ lone.
+          let here : cond {A = ℕ} (pointwise nat_eq left left) 1 0 ≡ 1 = rw (left_same left left refl) refl in
+          absurd (omega (
+            arith,
+            lone,
+            le,
+            here,
+            count_rest one places n left,
+            counted_from one places n left lt,
+            pairs left,
+            leb-true (count_left other others left) (count_left one (take n places) left) less,
+          ))))
+    ]
+
 -- where no surplus is left, but for what stands on a third screen
 pub none_left : (row surplus spent : List ℕ) (one other first : List Row) (places others firsts alone alones : List Place) (each n : ℕ) → n < length places
     → PairOff one places other others alone alones → IsSurplus row one alone other alones surplus

@@ -11,6 +11,7 @@ mod NearLemmas
 mod StayLemmas
 mod SpaceLemmas
 mod RegionLemmas
+mod WithinLemmas
 mod PairLemmas
 mod LeftLemmas
 mod SurplusLemmas

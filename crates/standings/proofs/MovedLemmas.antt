@@ -11,26 +11,37 @@ use Rattle.standings.proofs.PlaceLemmas.{along_parts, along_within, count_is, fr
 
 -- ---- the places of all rows but the first ones, so many rows further up
 
+-- a place, in the row of another number
+abbrev numbered : (ℕ → ℕ) → Place → Place
+numbered f place = place_in (f place.above) place.before
+
+numbered_in : (f : ℕ → ℕ) (above there : ℕ) (starts : List ℕ) → f above ≡ there → map (numbered f) (map (place_in above) starts) ≡ map (place_in there) starts
+numbered_in f above there [] is = refl
+numbered_in f above there (before ∷ starts) is = ap₂ (λ k l. place_in k before ∷ l) is (numbered_in f above there starts is)
+
+-- the places of rows, where each of these has another number
+pub numbered_from : (f : ℕ → ℕ) (text : List ℕ) (rows : List Row) (above there : ℕ) → ((k : ℕ) → k < length rows → f (above + k) ≡ there + k)
+    → map (numbered f) (places_from text above rows) ≡ places_from text there rows
+unfolding places_from
+numbered_from f text [] above there is = refl
+numbered_from f text (row ∷ rows) above there is =
+    let line = line_text (row ∷ rows) in
+    let m = length row.characters in
+    let here : above + 0 ≡ above = omega arith in
+    let also : there + 0 ≡ there = omega arith in
+    map-append (numbered f) (places_in text above line m) (places_from text (above + 1) rows)
+    ∙ ap₂ (λ a b. a ++ b) (numbered_in f above there (filter (begins text line) (range_with_len 0 m)) (ap f (sym here) ∙ is 0 (omega arith) ∙ also))
+    (numbered_from f text rows (above + 1) (there + 1) (λ k lt.
+    let next : above + 1 + k ≡ above + (k + 1) = omega arith in
+    let more : there + (k + 1) ≡ there + 1 + k = omega arith in
+    ap f next ∙ is (k + 1) (omega (arith, lt)) ∙ more))
+
 -- a place, so many rows further up
 abbrev pub lifted : ℕ → Place → Place
 lifted n place = place_in (place.above - n) place.before
 
-up_in : (n above : ℕ) (starts : List ℕ) → map (lifted n) (map (place_in (above + n)) starts) ≡ map (place_in above) starts
-up_in n above [] = refl
-up_in n above (before ∷ starts) =
-    let here : above + n - n ≡ above = omega arith in
-    ap₂ (λ k l. place_in k before ∷ l) here (up_in n above starts)
-
 pub up_from : (n : ℕ) (text : List ℕ) (rows : List Row) (above : ℕ) → map (lifted n) (places_from text (above + n) rows) ≡ places_from text above rows
-unfolding places_from
-up_from n text [] above = refl
-up_from n text (row ∷ rows) above =
-    let line = line_text (row ∷ rows) in
-    let m = length row.characters in
-    let next : above + n + 1 ≡ above + 1 + n = omega arith in
-    map-append (lifted n) (places_in text (above + n) line m) (places_from text (above + n + 1) rows)
-    ∙ ap₂ (λ a b. a ++ b) (up_in n above (filter (begins text line) (range_with_len 0 m)))
-    (ap (λ k. map (lifted n) (places_from text k rows)) next ∙ up_from n text rows (above + 1))
+up_from n text rows above = numbered_from (λ k. k - n) text rows (above + n) above (λ k lt. omega arith)
 
 -- those of the first so many rows are as many as stand above the next
 pub below_first : (text : List ℕ) (rows : List Row) (places : List Place) (n c : ℕ) → n ≤ length rows → places ≡ standing text rows → c ≤ length places

@@ -1,8 +1,8 @@
 -- A row of spaces that comes in below others, and a text that doesn't end in one.
-use Rattle.std.proofs.Common.{◌≡◌, ◌≢◌, ℕ, ◌+◌, ◌-◌, ◌<◌, ◌≤◌, false, List, [], ◌∷◌, ◌++◌, append_assoc, append-nil, cond, drop, get_or, length, replicate, ap, ap₂, sym, ◌∙◌, arith, inl, inr}
+use Rattle.std.proofs.Common.{◌≡◌, ℕ, ◌+◌, ◌-◌, ◌<◌, ◌≤◌, false, List, [], ◌∷◌, ◌++◌, append_assoc, append-nil, cond, drop, get_or, length, replicate, ap, ap₂, sym, ◌∙◌, arith, inl, inr}
 use Rattle.std.proofs.lemmas.Bool.{cases_Bool, cases_lt}
 use Rattle.std.proofs.lemmas.List.{drop-replicate, get_or-append-add, get_or-drop, get_or-replicate, length-append, length-drop, length-replicate}
-use Rattle.standings.specs.Moved.{spaces_row}
+use Rattle.standings.specs.Moved.{EndsInInk, spaces_row}
 use Rattle.standings.specs.Rows.{Row}
 use Rattle.standings.specs.Standing.{begins, line_text, places_from, places_in, standing}
 use Rattle.standings.proofs.FrontLemmas.{begins_before, fits_text, has_text}
@@ -10,8 +10,8 @@ use Rattle.standings.proofs.RowLemmas.{too_long}
 use Rattle.standings.proofs.SpanLemmas.{all_before, part_alike}
 
 -- spaces behind a line
-pub spaces_behind : (line text : List ℕ) (n i : ℕ) → 0 < length text → get_or text (length text - 1) 0 ≢ 32 → i ≤ length line → begins text (line ++ replicate n 32) i ≡ begins text line i
-spaces_behind line text n i some last within = elim (cases_lt (length line) (i + length text)) [
+pub spaces_behind : (line text : List ℕ) (n i : ℕ) → EndsInInk text → i ≤ length line → begins text (line ++ replicate n 32) i ≡ begins text line i
+spaces_behind line text n i ink within = elim (cases_lt (length line) (i + length text)) [
   | inr ends ↦ begins_before line (replicate n 32) [] text i ends ∙ ap (λ l. begins text l i) (append-nil line)
   | inl goes ↦
       let whole = line ++ replicate n 32 in
@@ -21,10 +21,10 @@ spaces_behind line text n i some last within = elim (cases_lt (length line) (i +
         | inl t ↦
             let k = length text - 1 in
             let j = i + k - length line in
-            let there : i + k ≡ length line + j = omega (arith, goes, some) in
-            let lt : j < n = omega (arith, fits_text (drop i whole) text t, length-drop i whole, length-append line (replicate n 32), length-replicate {A = ℕ} n 32, goes, some) in
-            absurd (last
-            (sym (has_text (drop i whole) text k t (omega (arith, some))) ∙ get_or-drop i whole k 0 ∙ ap (λ m. get_or whole m 0) there
+            let there : i + k ≡ length line + j = omega (arith, goes, ink.some) in
+            let lt : j < n = omega (arith, fits_text (drop i whole) text t, length-drop i whole, length-append line (replicate n 32), length-replicate {A = ℕ} n 32, goes, ink.some) in
+            absurd (ink.last
+            (sym (has_text (drop i whole) text k t (omega (arith, ink.some))) ∙ get_or-drop i whole k 0 ∙ ap (λ m. get_or whole m 0) there
             ∙ get_or-append-add line (replicate n 32) j 0 ∙ get_or-replicate n j 32 0 lt))
       ]
 ]
@@ -44,25 +44,24 @@ line_long : (row : Row) (rows : List Row) → length row.characters ≤ length (
 unfolding line_text
 line_long row rows = omega (arith, length-append row.characters (cond row.runs_on (line_text rows) []))
 
-from_spaces : (text : List ℕ) (columns : ℕ) → 0 < length text → get_or text (length text - 1) 0 ≢ 32 → (rows : List Row) (above : ℕ)
+pub from_spaces : (text : List ℕ) (columns : ℕ) → EndsInInk text → (rows : List Row) (above : ℕ)
     → places_from text above (rows ++ spaces_row columns ∷ []) ≡ places_from text above rows
 unfolding places_from line_spaces line_text
-from_spaces text columns some last [] above =
+from_spaces text columns ink [] above =
     let line = line_text (spaces_row columns ∷ []) in
     let on = line_spaces [] columns in
     append-nil (places_in text above line (length (replicate columns 32)))
     ∙ all_before text above line (length (replicate columns 32)) (λ i lt.
     ap (λ l. begins text l i) on.1 ∙ ap (λ l. begins text l 0) (drop-replicate i on.0 32)
-    ∙ spaces_behind [] text (on.0 - i) 0 some last (omega arith) ∙ too_long [] text some)
-from_spaces text columns some last (row ∷ rows) above =
+    ∙ spaces_behind [] text (on.0 - i) 0 ink (omega arith) ∙ too_long [] text ink.some)
+from_spaces text columns ink (row ∷ rows) above =
     let line = line_text (row ∷ rows) in
     let on = line_spaces (row ∷ rows) columns in
     ap₂ (λ a b. a ++ b)
     (part_alike text above line (line_text (row ∷ (rows ++ spaces_row columns ∷ []))) (length row.characters) 0
-    (λ i _ lt. ap (λ l. begins text l i) on.1 ∙ spaces_behind line text on.0 i some last (omega (arith, lt, line_long row rows))))
-    (from_spaces text columns some last rows (above + 1))
+    (λ i _ lt. ap (λ l. begins text l i) on.1 ∙ spaces_behind line text on.0 i ink (omega (arith, lt, line_long row rows))))
+    (from_spaces text columns ink rows (above + 1))
 
 -- where it stands
-pub standing_spaces : (text : List ℕ) (columns : ℕ) (rows : List Row) → 0 < length text → get_or text (length text - 1) 0 ≢ 32
-    → standing text (rows ++ spaces_row columns ∷ []) ≡ standing text rows
-standing_spaces text columns rows some last = from_spaces text columns some last rows 0
+pub standing_spaces : (text : List ℕ) (columns : ℕ) (rows : List Row) → EndsInInk text → standing text (rows ++ spaces_row columns ∷ []) ≡ standing text rows
+standing_spaces text columns rows ink = from_spaces text columns ink rows 0

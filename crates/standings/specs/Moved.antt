@@ -1,5 +1,5 @@
 -- Rows that move up by one.
-use Rattle.std.specs.Prelude.{ℕ, ◌-◌, false, List, [], ◌∷◌, ◌++◌, drop, replicate, take}
+use Rattle.std.specs.Prelude.{◌≢◌, ℕ, ◌+◌, ◌-◌, ◌^◌, ◌<◌, false, List, [], ◌∷◌, ◌++◌, drop, length, min, replicate, slice_index_or, take}
 use Rattle.std.specs.List.{range_with_len}
 use Rattle.standings.specs.Rows.{Row}
 use Rattle.standings.specs.Standing.{place_in}
@@ -36,3 +36,12 @@ turned count rows = drop count rows ++ take count rows
 -- private: a place, in the row above its own
 abbrev pub place_up : Place → Place
 place_up place = place_in (place.above - 1) place.before
+
+-- private: a place, in the row below its own, as far as rows are numbered
+abbrev pub place_down : Place → Place
+place_down place = place_in (min (place.above + 1) (2 ^ 64 - 1)) place.before
+
+-- private: a text that isn't empty and doesn't end in a space
+pub record EndsInInk (text : List ℕ) : Type 0 where
+  pub some : 0 < length text
+  pub last : slice_index_or text (length text - 1) 0 ≢ 32

@@ -255,22 +255,35 @@ fn next_pair(
         other.now (take (there + result.count) others.now) (take result.at places.now) (take there others.now) }
 {
     let (end, before) = (lag.search_end(others[there].above), others[there].before);
-    let mut at = from;
+    let mut at = next_behind(places, from, end, before);
     while at < places.len() && places[at].above < end {
-        if places[at].before == before {
-            let count = count_alike(one, places, at, other, others, there, lag);
-            if count > 0 {
-                let end = there + count;
-                return Pair { at, count, end };
-            }
+        let count = count_alike(one, places, at, other, others, there, lag);
+        if count > 0 {
+            let end = there + count;
+            return Pair { at, count, end };
         }
-        at += 1;
+        at = next_behind(places, at + 1, end, before);
     }
     next_front(one, places, from, other, others, there, lag)
 }
 
+/// The next of some places, from one on, that stands behind so many characters; or the first one that stands in no row above
+/// this one.
+fn next_behind(places: &[Place], from: usize, end: usize, before: usize) -> usize
+    requires { from ≤ length places.now }
+    ensures low { from ≤ result }
+    ensures within { result ≤ length places.now }
+{
+    let mut at = from;
+    while at < places.len() && places[at].above < end && places[at].before != before {
+        at += 1;
+    }
+    at
+}
+
 /// How many places of two screens, from these on, pair off since they stand in rows that surely stay where the one lags so
 /// behind the other, or else in rows of the same characters.
+#[inline(always)]
 fn count_alike(
     one: &[Row],
     places: &[Place],
@@ -287,11 +300,10 @@ fn count_alike(
     ensures pairs { Lags lag one.now other.now → PairOff one.now (take (at + result) places.now)
         other.now (take (there + result) others.now) (take at places.now) (take there others.now) }
 {
-    let kept = count_kept(one, places, at, other, others, there, lag);
-    if kept > 0 {
-        return kept;
+    if lag.keeps(places[at].above, others[there].above, one.len()) {
+        return count_kept(one, places, at, other, others, there, lag);
     }
-    count_paired(one, places, at, other, others, there)
+    count_paired(one, &places[at..], other, &others[there..])
 }
 
 /// The next places of a screen, from one on, that pair off with the first ones of another one's row, since the row that came
@@ -411,30 +423,43 @@ fn begin_alike(places: &[Place], others: &[Place]) -> bool
         && places[0].before == others[0].before
 }
 
-/// How many places of two screens, from these on, pair off: they stand in rows of the same characters, behind as many of
-/// them.
-fn count_paired(
-    one: &[Row],
-    places: &[Place],
-    at: usize,
-    other: &[Row],
-    others: &[Place],
-    there: usize,
-) -> usize
-    requires within { at < length places.now }
-    requires there { there < length others.now }
-    ensures within { at + result ≤ length places.now }
-    ensures there { there + result ≤ length others.now }
-    ensures pairs { PairOff one.now (take (at + result) places.now) other.now (take (there + result) others.now)
-        (take at places.now) (take there others.now) }
+/// How many of the first places of two screens pair off: row by row, as long as the rows are of the same characters.
+fn count_paired(one: &[Row], places: &[Place], other: &[Row], others: &[Place]) -> usize
+    ensures within { result ≤ length places.now }
+    ensures there { result ≤ length others.now }
+    ensures pairs { PairOff one.now (take result places.now) other.now (take result others.now) [] [] }
 {
-    let (here, row) = (places[at].above, others[there].above);
+    let most = places.len().min(others.len());
+    let mut count = 0;
+    while count < most {
+        let more = count_in_row(one, &places[count..], other, &others[count..]);
+        if more == 0 {
+            return count;
+        }
+        count += more;
+    }
+    count
+}
+
+/// The same of the row in which the first two stand.
+#[inline(always)]
+fn count_in_row(one: &[Row], places: &[Place], other: &[Row], others: &[Place]) -> usize
+    requires some { 0 < length places.now }
+    requires there { 0 < length others.now }
+    ensures within { result ≤ length places.now }
+    ensures there { result ≤ length others.now }
+    ensures pairs { PairOff one.now (take result places.now) other.now (take result others.now) [] [] }
+{
+    if places[0].before != others[0].before {
+        return 0;
+    }
+    let (here, row) = (places[0].above, others[0].above);
     if characters_below(one, here) != characters_below(other, row) {
         return 0;
     }
-    let most = (places.len() - at).min(others.len() - there);
-    let mut count = 0;
-    while count < most && are_alike(places[at + count], here, others[there + count], row) {
+    let most = places.len().min(others.len());
+    let mut count = 1;
+    while count < most && are_alike(places[count], here, others[count], row) {
         count += 1;
     }
     count
@@ -475,7 +500,7 @@ pub(crate) fn row_end(places: &[Place], at: usize) -> usize
 
 /// Whether each of some places of a screen surely has one of some on another with the same to the left. It goes over both in
 /// reading order, once, as long as the others are enough.
-fn keeps_all(rows: &[Row], places: &[Place], others: &[Row], mates: &[Place]) -> bool
+pub(crate) fn keeps_all(rows: &[Row], places: &[Place], others: &[Row], mates: &[Place]) -> bool
     ensures { result ≡ true → (left : List ℕ)
         → count_left rows.now places.now left ≤ count_left others.now mates.now left }
 {

@@ -10,9 +10,9 @@ ghost use Rattle.standings.specs.Rows.{Row, row_below};
 ghost use Rattle.standings.specs.Standing.{count_left, is_less, left_of, place_at};
 ghost use Rattle.standings.specs.declared.place.Place.{Place};
 
-use crate::alone::{Alone, row_end};
+use crate::alone::{Alone, keeps_all, row_end};
 use crate::left::{Standing, is_less, is_lone};
-use crate::place::Place;
+use crate::place::{Place, count_above};
 use crate::row::{Row, characters_below};
 use crate::surplus::{begins_with, find_surplus, is_spent, some_begins, take_all_off, tell_last};
 use std::alloc::{AllocError, Global};
@@ -407,18 +407,42 @@ fn spend(row: &[char], ends: Option<&Ends<'_>>, surplus: &mut [usize])
 }
 
 /// Whether some place of a screen is less on the other, and has nothing with the same to the left on a third one, by the
-/// places of both that stand alone.
+/// places of both that stand alone. Mostly the third one has something for each of these, which is seen at once.
 pub fn may_pass(first: &Standing, one: &Standing, other: &Standing, alone: &Alone) -> bool
     ensures { PairOff one.now.rows.items one.now.places.items other.now.rows.items
         other.now.places.items alone.now.one.items alone.now.other.items
         → SomePass result first.now.rows.items first.now.places.items
         one.now.rows.items one.now.places.items other.now.rows.items other.now.places.items }
 {
+    if all_stand(alone.one.as_slice(), one, first) {
+        return false;
+    }
     let alloc = *one.rows.allocator();
     match some_pass(alloc, first, one, other, alone) {
         Ok(some) => some,
         Err(_) => may_pass_plainly(first, one, other),
     }
+}
+
+/// Whether each of some places of a screen surely has one on another with the same to the left. It is looked for in the rows
+/// from the first to the last of them, in reading order.
+fn all_stand(alone: &[Place], one: &Standing, first: &Standing) -> bool
+    ensures { result ≡ true → (left : List ℕ) → count_left one.now.rows.items alone.now left
+        ≤ count_left first.now.rows.items first.now.places.items left }
+{
+    if alone.is_empty() {
+        return true;
+    }
+    let (top, bottom) = (alone[0].above, alone[alone.len() - 1].above);
+    let places = first.places.as_slice();
+    let from = count_above(places, top);
+    let count = count_above(&places[from..], bottom.saturating_add(1));
+    keeps_all(
+        one.rows.as_slice(),
+        alone,
+        first.rows.as_slice(),
+        &places[from..from + count],
+    )
 }
 
 /// The same by the surplus of the rows that stand alone.

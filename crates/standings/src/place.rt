@@ -2,7 +2,7 @@
 
 ghost use Rattle.std.specs.Prelude.{◌≡◌, ◌≢◌, ◌+◌, ◌≤◌, ◌<◌, ◌++◌, ◌∷◌, ◌-◌, [], false, true, List, ℕ, drop, length, map, nat_eq, slice_index_or, take, vec_capacity, IfOk, OnErr, OnOk};
 ghost use Rattle.std.specs.List.{starts_with};
-ghost use Rattle.standings.specs.Moved.{place_up, spaces_row};
+ghost use Rattle.standings.specs.Moved.{EndsInInk, place_down, place_up, spaces_row};
 ghost use Rattle.standings.specs.Near.{IsOrdered, places_part};
 ghost use Rattle.standings.specs.Room.{fitting};
 ghost use Rattle.standings.specs.Rows.{Row, row_below};
@@ -152,11 +152,20 @@ pub(crate) fn move_places_up(places: &mut Vec<Place>)
 }
 
 /// Each place moves up by a row.
-fn lift(places: &mut [Place])
+pub(crate) fn lift(places: &mut [Place])
     ensures { places.new ≡ map place_up places.old }
 {
     for place in places.iter_mut() {
         place.above = place.above.saturating_sub(1);
+    }
+}
+
+/// Each place moves down by a row.
+pub(crate) fn lower(places: &mut [Place])
+    ensures { places.new ≡ map place_down places.old }
+{
+    for place in places.iter_mut() {
+        place.above = place.above.saturating_add(1);
     }
 }
 
@@ -253,7 +262,8 @@ pub(crate) fn may_come(rows: &[Row], text: &[char], span: Span) -> bool
 
 /// Whether a text may come to stand by a row of spaces that comes in below others: whether it ends in a space.
 pub(crate) fn may_come_below(text: &[char]) -> bool
-    ensures { result ≡ false → (rows : List Row) (columns : ℕ)
+    ensures ink { result ≡ false → EndsInInk text.now }
+    ensures below { result ≡ false → (rows : List Row) (columns : ℕ)
         → standing text.now (rows ++ spaces_row columns ∷ []) ≡ standing text.now rows }
 {
     text.is_empty() || text[text.len() - 1] == ' '

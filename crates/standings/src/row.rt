@@ -375,6 +375,22 @@ pub(crate) fn move_rows_up(rows: &mut [Row], columns: usize) -> Result<(), Alloc
     Ok(())
 }
 
+/// All rows move down by one, and the last one becomes a row of so many spaces above the others. Where memory is refused,
+/// they are as before.
+pub(crate) fn move_rows_down(rows: &mut [Row], columns: usize) -> Result<(), AllocError>
+    requires some { 0 < length rows.old }
+    requires few { columns < u16.MAX }
+    ensures moved { OnOk result
+        (rows.new ≡ spaces_row columns ∷ take (length rows.old - 1) rows.old) }
+    ensures refused { OnErr result (rows.new ≡ rows.old) }
+{
+    let last = rows.len() - 1;
+    let row = &mut rows[last];
+    row.blank(columns)?;
+    rows.rotate_right(1);
+    Ok(())
+}
+
 /// The first of some rows goes out, the others move up by one, and a row comes in below them.
 pub(crate) fn shift_up(rows: &mut [Row], row: Row) -> Row
     requires { 0 < length rows.old }

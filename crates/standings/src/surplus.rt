@@ -144,6 +144,21 @@ fn differ_at(characters: &[char], front: &[char], at: usize) -> bool
     characters[at] != front[at]
 }
 
+/// Whether a row doesn't begin with a left part, since it is shorter or has another character where that ends.
+#[inline(always)]
+fn ends_apart(row: &[char], left: &[char]) -> bool
+    ensures { result ≡ true → starts_with nat_eq row.now left.now ≡ false }
+{
+    let len = left.len();
+    if len > row.len() {
+        return true;
+    }
+    if len == 0 {
+        return false;
+    }
+    differ_at(row, left, len - 1)
+}
+
 /// Whether no left part has a surplus. It goes over all of them with no way out, since that is done many at a time.
 #[inline]
 pub(crate) fn is_spent(surplus: &[usize]) -> bool
@@ -293,7 +308,7 @@ impl Agreed {
     }
 
     /// How many characters stand left of a place, if a row begins with these. It is compared with the place's row where
-    /// that is another one than the last time.
+    /// that is another one than the last time: mostly the last of these characters tells that the row doesn't.
     #[inline(always)]
     fn len_left(&mut self, row: &[char], rows: &[Row], place: Place) -> Option<usize>
         requires { Agree row.now (row_below rows.now self.old.above).characters self.old.count }
@@ -302,10 +317,14 @@ impl Agreed {
             × (starts_with nat_eq row.now (left_of rows.now place) ≡ true)) }
         ensures none { result ≡ None → starts_with nat_eq row.now (left_of rows.now place) ≡ false }
     {
+        let left = left_of(rows, place);
         if place.above != self.above {
+            if ends_apart(row, left) {
+                return None;
+            }
             *self = Agreed::with(row, rows, place.above);
         }
-        let len = left_of(rows, place).len();
+        let len = left.len();
         if len <= self.count { Some(len) } else { None }
     }
 

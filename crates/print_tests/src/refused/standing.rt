@@ -296,13 +296,14 @@ fn rows_that_move_within(rt: HostRuntime) -> Result<(), Fail> {
     let mut given = still(&rt, LINES, &[(0, 0), (2, 0)])?;
     let up = still(
         &rt,
-        &[("cd", false), ("  ", false), ("ab", false)],
+        &[("cd", false), ("    ", false), ("ab", false)],
         &[(2, 0)],
     )?;
-    let call = Call::MoveWithin(Span { from: 0, to: 2 }, 2, false);
+    let call = Call::MoveWithin(Span { from: 0, to: 2 }, 4, false);
     tried(&rt, &mut given, call, &['a', 'b'], &up)?;
-    let down = still(&rt, &[("cd", false), ("  ", false), ("  ", false)], &[])?;
-    let call = Call::MoveWithin(Span { from: 1, to: 3 }, 2, true);
+    let blank = ("    ", false);
+    let down = still(&rt, &[("cd", false), blank, blank], &[])?;
+    let call = Call::MoveWithin(Span { from: 1, to: 3 }, 4, true);
     tried(&rt, &mut given, call, &['a', 'b'], &down)
 }
 

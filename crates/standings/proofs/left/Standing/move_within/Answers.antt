@@ -1,31 +1,29 @@
-use Rattle.std.proofs.Common.{◌≡◌, ◌-◌, ◌≤◌, ◌∙◌, ap, arith, cond, drop, length, not}
+use Rattle.std.proofs.Common.{◌≡◌, ◌-◌, ◌∙◌, ap, arith, cond, drop, length, refl, subst, sym}
 use Rattle.std.proofs.lemmas.List.{take_at}
-use Rattle.standings.specs.Moved.{shifted_down, shifted_up}
-use Rattle.standings.specs.Rows.{row_below}
-use Rattle.standings.proofs.RegionLemmas.{moved_back}
+use Rattle.standings.specs.Moved.{region_down, region_up}
+use Rattle.standings.specs.Near.{IsClear}
+use Rattle.standings.specs.Standing.{standing}
 use Rattle.standings.proofs.left.Standing.move_within.Goals as goal
+use Rattle.standings.proofs.left.Standing.move_within.Goals.{then-down, else-down}
 
-pub returns-then-is_err-clause-refused_rows : goal.returns-then-is_err-clause-refused_rows
-returns-then-is_err-clause-refused_rows c =
+pub returns-clause-places : goal.returns-clause-places
+returns-clause-places c = λ some within was.
+    let text = c.args.text.now in
     let rows = c.args.self.now.rows.items in
     let from = c.args.from in
     let to = c.args.to in
+    let columns = c.args.columns in
     let down = c.args.down in
-    let row = c.in_ok-row.row in
-    let one = c.shift_within-out.new.rows in
-    let two = c.shift_within.new.rows in
-    let within : to ≤ length rows = omega (arith, c.if-to-len.false, c.len.ensures, c.args.self.now.rows.ok.0) in
-    let first : one ≡ cond down (shifted_down from to row rows) (shifted_up from to row rows) =
-    c.shift_within-out.ensures.rows ∙ ap (λ l. cond down (shifted_down from to row l) (shifted_up from to row l)) c.as_mut_slice.ensures.value in
-    let out : c.shift_within-out.result ≡ row_below rows (cond down (to - 1) from) =
-    c.shift_within-out.ensures.out ∙ ap (λ l. row_below l (cond down (to - 1) from)) c.as_mut_slice.ensures.value in
-    let many : length one ≡ c.args.self.now.rows.len = omega (arith, c.shift_within-out.auto.rows, c.as_mut_slice.ensures.len, c.args.self.now.rows.ok.0) in
-    let there : c.as_mut_slice-then-is_err.result.now ≡ one =
-    c.as_mut_slice-then-is_err.ensures.value ∙ c.look_again.ensures.rows ∙ take_at one (drop (length one) rows) c.args.self.now.rows.len many in
-    let back : two ≡ rows =
-    moved_back from to rows one two row c.shift_within-out.result down (omega (arith, c.if-from-to.false)) within first out
-    (c.shift_within.ensures.rows
-    ∙ ap (λ l. cond (not down) (shifted_down from to c.shift_within-out.result l) (shifted_up from to c.shift_within-out.result l)) there) in
-    let many' : length two ≡ c.look_again.new.self.rows.len =
-    omega (arith, c.shift_within.auto.rows, c.as_mut_slice-then-is_err.ensures.len) in
-    take_at two (drop (length two) c.look_again.new.self.rows.items) c.look_again.new.self.rows.len many' ∙ back
+    let new = c.move_rows_within.new.rows in
+    let end : c.if-down.end ≡ cond down (to - 1) to = elim c.if-down.branch [
+      | then-down w ↦ rw (w.end-is, w.if-down.true) refl
+      | else-down w ↦ rw (w.end-is, w.if-down.false) refl
+    ] in
+    let seen = c.as_slice-rows.ensures.value in
+    let clear = subst (λ l. IsClear l from 0 text) seen (c.may_go_on.ensures c.if-may_go_on.false) in
+    let ends = subst (λ n. IsClear rows n 0 text) end (subst (λ l. IsClear l c.if-down.end 0 text) seen (c.may_go_on-else-may_go_on.ensures c.if-may_go_on-2.false)) in
+    let moved : new ≡ cond down (region_down from to columns rows) (region_up from to columns rows) =
+    c.in_ok-move_rows_within.ensures.moved ∙ ap (λ l. cond down (region_down from to columns l) (region_up from to columns l)) c.as_mut_slice.ensures.value in
+    let many : length new ≡ c.args.self.now.rows.len = omega (arith, c.move_rows_within.auto.rows, c.as_mut_slice.ensures.len, c.args.self.now.rows.ok.0) in
+    c.move_places_within.ensures text rows columns (c.may_come_below.ensures.ink c.if-may_come_below.false) (omega (arith, c.len.ensures, c.args.self.now.rows.ok.0)) within clear ends was
+    ∙ ap (standing text) (sym moved ∙ sym (take_at new (drop (length new) rows) c.args.self.now.rows.len many))
