@@ -22,9 +22,9 @@ use Rattle.text_find.specs.Calm.{HasStood, IsAhead, IsCalm, IsInside, NonePass}
 use Rattle.text_find.specs.FindLines.{Screens, rows_within}
 use Rattle.text_find.specs.Foretold.{IsForetold}
 use Rattle.text_find.specs.declared.foretold.Foretold.TheVariants.{MovesUp}
-use Rattle.text_find.specs.Lines.{AreBetween, AreFound, AreStill, IsLagging, IsLate, IsReached, IsStill, IsTrailing, byte_lines, chunk_lines, end_lines, less_lines, passed_lines}
+use Rattle.text_find.specs.Lines.{AreBetween, AreFound, AreStill, IsHeld, IsLagging, IsLate, IsReached, IsStill, IsTrailing, byte_lines, chunk_lines, end_lines, less_lines, passed_lines}
 use Rattle.text_find.specs.Pieces.{AreQuiet}
-use Rattle.text_find.proofs.LineLemmas.{chunk_in_three, none_passed, nothing_passed, passed_by}
+use Rattle.text_find.proofs.LineLemmas.{chunk_in_three, held_by, none_passed, nothing_passed, passed_by, still_held}
 use Rattle.text_find.proofs.NowhereLemmas.{within_start}
 use Rattle.text_find.proofs.PieceLemmas.{pieces}
 use Rattle.text_find.proofs.QuietLemmas.{texts_none}
@@ -71,15 +71,14 @@ stays_calm text first screen before bytes taken quiet same = λ index due last l
 
 -- and at one of which this is told by what is kept of the screens
 pub quiet_calm : (text : List ℕ) (first : List Row) (screen : List ℕ → List Row) (before bytes : List ℕ) (taken : ℕ) (start one other : Standing) → AreQuiet text screen before bytes taken
-    → IsStill text first start → IsStill text (screen before) one → IsStill text (screen (before ++ take taken bytes)) other
+    → IsHeld text first start → IsStill text (screen before) one → IsStill text (screen (before ++ take taken bytes)) other
     → ((index due len : ℕ) (last : List Row) (lasts : List Place)
     → passed_lines index due len start.rows.items start.places.items last lasts one.rows.items one.places.items other.rows.items other.places.items ≡ [])
     → NonePass text first screen before bytes taken
 quiet_calm text first screen before bytes taken start one other quiet starts is is' none = λ index due last lasts count lt.
     quiet_none text index due first (standing text first) last lasts screen before bytes taken count quiet lt
-    (sym (passed_by text index due (length text) first (standing text first) last lasts (screen before) (screen (before ++ take taken bytes)) one other is is')
-    ∙ ap (λ r. passed_lines index due (length text) r (standing text first) last lasts one.rows.items one.places.items other.rows.items other.places.items) (sym starts.rows)
-    ∙ ap (λ ps. passed_lines index due (length text) start.rows.items ps last lasts one.rows.items one.places.items other.rows.items other.places.items) (sym starts.places)
+    (sym (passed_by text index due (length text) first (standing text first) last lasts (screen before) (screen (before ++ take taken bytes)) one other (still_held text (screen before) one is) is')
+    ∙ sym (held_by (λ r ps. passed_lines index due (length text) r ps last lasts one.rows.items one.places.items other.rows.items other.places.items) text first start (λ r r'. refl) starts)
     ∙ none index due (length text) last lasts)
 
 -- and where the text stood nowhere all along
@@ -140,7 +139,7 @@ ahead_more shows screens profile text before bytes taken piece ahead ends played
 
 -- so the lines of its ends are all of a chunk's
 pub calm_lines : (text : List ℕ) (index due len : ℕ) (screen : List ℕ → List Row) (before bytes : List ℕ) (one other : Standing)
-    → len ≡ length text → IsStill text (screen before) one → IsStill text (screen (before ++ bytes)) other → IsCalm text screen before bytes (length bytes)
+    → len ≡ length text → IsHeld text (screen before) one → IsStill text (screen (before ++ bytes)) other → IsCalm text screen before bytes (length bytes)
     → end_lines index due len one.rows.items one.places.items other.rows.items other.places.items ≡ chunk_lines text index due screen before bytes
 calm_lines text index due len screen before bytes one other l is is' calm =
     let went = less_lines 45 index due len one.rows.items one.places.items other.rows.items other.places.items in
@@ -148,7 +147,7 @@ calm_lines text index due len screen before bytes one other l is is' calm =
     let inside = λ (first : List Row) (firsts : List Place).
     flat_map (byte_lines text index due first firsts other.rows.items other.places.items screen before bytes) (range_with_len 0 (length bytes)) in
     let none : inside one.rows.items one.places.items ≡ [] =
-    ap (inside one.rows.items) is.places ∙ ap (λ r. inside r (standing text (screen before))) is.rows ∙ calm index due other.rows.items other.places.items in
+    held_by inside text (screen before) one (λ r r'. refl) is ∙ calm index due other.rows.items other.places.items in
     sym (ap (λ l. (went ++ l) ++ came) none ∙ ap (λ l. l ++ came) (append-nil went))
     ∙ chunk_in_three text index due len screen before bytes one other l is is'
 
@@ -179,7 +178,7 @@ rest_lines text index due screen before bytes start last lasts within calm =
 
 -- so the three parts of a chunk's lines are those of its ends, and those of the bytes behind the first ones
 pub rest_in_three : (text : List ℕ) (index due len : ℕ) (screen : List ℕ → List Row) (before bytes : List ℕ) (start : ℕ) (one other : Standing)
-    → len ≡ length text → start ≤ length bytes → IsStill text (screen before) one → IsStill text (screen (before ++ bytes)) other → IsCalm text screen before bytes start
+    → len ≡ length text → start ≤ length bytes → IsHeld text (screen before) one → IsStill text (screen (before ++ bytes)) other → IsCalm text screen before bytes start
     → (less_lines 45 index due len one.rows.items one.places.items other.rows.items other.places.items
     ++ flat_map (byte_lines text index due one.rows.items one.places.items other.rows.items other.places.items screen (before ++ take start bytes) (drop start bytes)) (range_with_len 0 (length (drop start bytes))))
     ++ less_lines 43 index due len other.rows.items other.places.items one.rows.items one.places.items
@@ -190,11 +189,9 @@ rest_in_three text index due len screen before bytes start one other l within is
     let lines = λ (first : List Row) (firsts : List Place) (played rest : List ℕ).
     flat_map (byte_lines text index due first firsts other.rows.items other.places.items screen played rest) (range_with_len 0 (length rest)) in
     let rest : lines one.rows.items one.places.items (before ++ take start bytes) (drop start bytes) ≡ lines one.rows.items one.places.items before bytes =
-    ap (λ ps. lines one.rows.items ps (before ++ take start bytes) (drop start bytes)) is.places
-    ∙ ap (λ r. lines r (standing text (screen before)) (before ++ take start bytes) (drop start bytes)) is.rows
+    held_by (λ r ps. lines r ps (before ++ take start bytes) (drop start bytes)) text (screen before) one (λ r r'. refl) is
     ∙ rest_lines text index due screen before bytes start other.rows.items other.places.items within calm
-    ∙ sym (ap (λ r. lines r (standing text (screen before)) before bytes) is.rows)
-    ∙ sym (ap (λ ps. lines one.rows.items ps before bytes) is.places) in
+    ∙ sym (held_by (λ r ps. lines r ps before bytes) text (screen before) one (λ r r'. refl) is) in
     ap (λ l. (went ++ l) ++ came) rest ∙ chunk_in_three text index due len screen before bytes one other l is is'
 
 -- ---- screens that trail
@@ -203,17 +200,21 @@ rest_in_three text index due len screen before bytes start one other l within is
 pub lags_same : (lag : Lag) (screen one other : List Row) → ((rows : List Row) → Lags lag rows rows) → one ≡ screen → other ≡ screen → Lags lag one other
 lags_same lag screen one other none is is' = subst (Lags lag one) (is ∙ sym is') (none one)
 
--- what is brought there doesn't lag, and is the same
-pub trails_there : (ends : Sides) (steps : Steps) (before : Standing) (none apart : Lag) → before.rows.items ≡ ends.after.rows.items
-    → before.places.items ≡ ends.after.places.items → ((rows : List Row) → Lags none rows rows) → Lags apart ends.after.rows.items steps.sides.after.rows.items
-    → IsTrailing ends (record { sides = record { before = before; after = steps.sides.after; lag = apart }; count = steps.count; lag = none })
-trails_there ends steps before none apart rows places there more = record {
-  lags = record {
-    before = lags_same none ends.after.rows.items before.rows.items ends.after.rows.items there rows refl;
-    after = subst (λ r. Lags apart r steps.sides.after.rows.items) (sym rows) more;
-  };
-  same = inr (rows, places);
+-- what is brought there doesn't lag
+pub lags_there : (ends : Sides) (steps : Steps) (before : Standing) (none apart : Lag) → before.rows.items ≡ ends.after.rows.items
+    → ((rows : List Row) → Lags none rows rows) → Lags apart ends.after.rows.items steps.sides.after.rows.items
+    → IsLagging ends (record { sides = record { before = before; after = steps.sides.after; lag = apart }; count = steps.count; lag = none })
+lags_there ends steps before none apart rows there more = record {
+  before = lags_same none ends.after.rows.items before.rows.items ends.after.rows.items there rows refl;
+  after = subst (λ r. Lags apart r steps.sides.after.rows.items) (sym rows) more;
 }
+
+-- nor what stands as it does, behind what stood at a chunk's start
+pub lags_since : (text : List ℕ) (screen screen' : List Row) (ends others : Sides) (one : Standing) → others.before ≡ ends.before → AreBetween text screen screen' ends
+    → IsStill text screen' one → Lags ends.lag others.before.rows.items one.rows.items
+lags_since text screen screen' ends others one same are is =
+    subst (λ (still : Standing). Lags ends.lag still.rows.items one.rows.items) (sym same)
+    (subst (Lags ends.lag ends.before.rows.items) (are.after.rows ∙ sym is.rows) are.lag)
 
 -- what is played ahead stays
 pub lags_on : (ends others : Sides) (steps : Steps) → others.after.rows.items ≡ ends.after.rows.items → IsLagging ends steps → IsLagging others steps
@@ -222,63 +223,55 @@ lags_on ends others steps rows lags = record {
   after = lags.after;
 }
 
-pub trails_on : (text : List ℕ) (screen : List Row) (ends others : Sides) (steps : Steps) → IsStill text screen ends.after → IsStill text screen others.after
-    → IsTrailing ends steps → IsTrailing others steps
-trails_on text screen ends others steps is is' trails =
-    let rows = is'.rows ∙ sym is.rows in
-    let places = is'.places ∙ sym is.places in
-    record {
-      lags = lags_on ends others steps rows trails.lags;
-      same = elim trails.same [
-        | inl none ↦ inl (places ∙ none)
-        | inr both ↦ inr (both.0 ∙ sym rows, both.1 ∙ sym places)
-      ];
-    }
+pub trails_on : (text : List ℕ) (ends others : Sides) (steps : Steps) → others.after.rows.items ≡ ends.after.rows.items
+    → IsTrailing text ends steps → IsTrailing text others steps
+trails_on text ends others steps rows trails = record { lags = lags_on ends others steps rows trails.lags; stood = trails.stood }
 
--- where the text stands, what stood before is told
-pub stood_before : (text : List ℕ) (screen : List Row) (ends : Sides) (steps : Steps) → (ends.after.places.items ≡ [] → ⊥) → IsStill text screen ends.after → IsTrailing ends steps
-    → IsStill text screen steps.sides.before
-stood_before text screen ends steps stands is trails = elim trails.same [
-  | inl none ↦ absurd (stands none)
-  | inr both ↦ record { rows = both.0 ∙ is.rows; places = both.1 ∙ is.places }
-]
+-- where what is played ahead changes, and what lags behind it lags so much more
+pub trails_change : (text : List ℕ) (ends : Sides) (steps more : Steps) → more.sides ≡ steps.sides → IsLagging ends more
+    → steps.sides.before.places.items ≡ standing text steps.sides.before.rows.items → IsTrailing text ends more
+trails_change text ends steps more same lags stood = record {
+  lags = lags;
+  stood = subst (λ (sides : Sides). sides.before.places.items ≡ standing text sides.before.rows.items) (sym same) stood;
+}
 
 -- where both are the same
 pub trails_same : (text : List ℕ) (screen : List Row) (ends : Sides) (steps : Steps) → AreStill text screen ends → AreStill text screen steps.sides
-    → ((rows : List Row) → Lags steps.lag rows rows) → IsTrailing ends steps
-trails_same text screen ends steps still also none = record {
+    → steps.lag ≡ steps.sides.lag → IsTrailing text ends steps
+trails_same text screen ends steps still also same = record {
   lags = record {
-    before = lags_same steps.lag screen steps.sides.before.rows.items ends.after.rows.items none also.before.rows still.after.rows;
+    before = subst (λ lag. Lags lag steps.sides.before.rows.items ends.after.rows.items) (sym same)
+        (subst (Lags steps.sides.lag steps.sides.before.rows.items) (also.after.rows ∙ sym still.after.rows) also.lag);
     after = also.lag;
   };
-  same = inr (also.before.rows ∙ sym still.after.rows, also.before.places ∙ sym still.after.places);
+  stood = also.before.stood;
 }
 
 module _ {P T : Type 0} (shows : P → T → List ℕ → Type 0) (screens : Screens P) (profile : P) (chunks : List Chunk) (text : List ℕ) where
   -- neither terminal lags
   pub found_both : (index : ℕ) (ahead : T) (ends : Sides) (behind : T) (steps : Steps) → shows profile ahead (first chunks index) → AreStill text (screens profile (first chunks index)) ends
       → shows profile behind (first chunks index) → AreStill text (screens profile (first chunks index)) steps.sides
-      → ((rows : List Row) → Lags steps.lag rows rows) → steps.count ≡ index
+      → steps.lag ≡ steps.sides.lag → steps.count ≡ index
       → AreFound shows screens profile chunks index text ahead ends behind steps
-  found_both index ahead ends behind steps played still also also_still none count = record {
+  found_both index ahead ends behind steps played still also also_still lag count = record {
     played = played;
     still = still;
     count = omega arith;
     lagging = subst (λ n. shows profile behind (first chunks n)) (sym count) also;
-    trails = trails_same text (screens profile (first chunks index)) ends steps still also_still none;
+    trails = trails_same text (screens profile (first chunks index)) ends steps still also_still lag;
   }
 
   -- one lags, and what stands on the other one was kept up
   pub found_settled : (index : ℕ) (ahead : T) (one : List Row) (ends others : Sides) (behind : T) (steps : Steps) → shows profile ahead (first chunks index)
       → AreBetween text one (screens profile (first chunks index)) ends → AreStill text (screens profile (first chunks index)) others
-      → IsTrailing ends steps → IsLate shows profile chunks index behind steps
+      → IsTrailing text ends steps → IsLate shows profile chunks index behind steps
       → AreFound shows screens profile chunks index text ahead others behind steps
   found_settled index ahead one ends others behind steps played are still trails late = record {
     played = played;
     still = still;
     count = late.count;
     lagging = late.played;
-    trails = trails_on text (screens profile (first chunks index)) ends others steps are.after still.after trails;
+    trails = trails_on text ends others steps (still.after.rows ∙ sym are.after.rows) trails;
   }
 
   -- it has had as many chunks as its count says
@@ -287,6 +280,13 @@ module _ {P T : Type 0} (shows : P → T → List ℕ → Type 0) (screens : Scr
   found_late index next ahead ends behind steps more found le same = record {
     count = omega (arith, found.count, le, same);
     played = subst (λ n. shows profile behind (first chunks n)) (sym same) found.lagging;
+  }
+
+  -- as where only that counts
+  pub late_on : (index : ℕ) (behind : T) (steps more : Steps) → more.count ≡ steps.count → IsLate shows profile chunks index behind steps → IsLate shows profile chunks index behind more
+  late_on index behind steps more same late = record {
+    count = omega (arith, late.count, same);
+    played = subst (λ n. shows profile behind (first chunks n)) (sym same) late.played;
   }
 
   -- and has had none of the next one's bytes
@@ -299,19 +299,17 @@ module _ {P T : Type 0} (shows : P → T → List ℕ → Type 0) (screens : Scr
         still = subst (λ b. AreStill text (screens profile b) steps.sides) here reached.still;
         calm = λ place due last lasts. refl;
         count = reached.count;
-        none = reached.none;
       }
 
   -- and some of them, at which nothing passes
   pub stood_inside : (index start : ℕ) (chunk : List ℕ) (behind : T) (steps : Steps) → chunk ≡ bytes_at chunks index → IsCalm text (screens profile) (first chunks index) chunk start
       → shows profile behind (first chunks index ++ take start chunk) → AreStill text (screens profile (first chunks index ++ take start chunk)) steps.sides
-      → steps.count ≡ index → ((rows : List Row) → Lags steps.lag rows rows) → IsInside shows screens profile chunks index start text behind steps
-  stood_inside index start chunk behind steps bytes calm played still count none = record {
+      → steps.count ≡ index → IsInside shows screens profile chunks index start text behind steps
+  stood_inside index start chunk behind steps bytes calm played still count = record {
     played = subst (λ b. shows profile behind (first chunks index ++ take start b)) bytes played;
     still = subst (λ b. AreStill text (screens profile (first chunks index ++ take start b)) steps.sides) bytes still;
     calm = subst (λ b. IsCalm text (screens profile) (first chunks index) b start) bytes calm;
     count = count;
-    none = none;
   }
 
   -- and the other one has had no more
@@ -319,7 +317,7 @@ module _ {P T : Type 0} (shows : P → T → List ℕ → Type 0) (screens : Scr
       → AreStill text (screens profile (first chunks index)) ends → IsReached shows screens profile chunks index text behind steps
       → AreFound shows screens profile chunks index text ahead ends behind steps
   found_reached index ahead ends behind steps played still reached =
-      found_both index ahead ends behind steps played still reached.played reached.still reached.none reached.count
+      found_both index ahead ends behind steps played still reached.played reached.still reached.lag reached.count
 
   -- of all that is the same
   pub found_as : (index : ℕ) (ahead ahead' : T) (ends ends' : Sides) (behind behind' : T) (steps steps' : Steps)

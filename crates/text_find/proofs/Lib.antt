@@ -4,4 +4,5 @@ mod LineLemmas
 mod NowhereLemmas
 mod PieceLemmas
 mod QuietLemmas
+mod UntouchedLemmas
 mod StoodLemmas

@@ -20,7 +20,7 @@ use Rattle.standings.specs.Less.{has_passed}
 use Rattle.standings.specs.Rows.{Row}
 use Rattle.standings.specs.Standing.{count_left, gone, is_less, is_lone, left_of, passed, place_at, place_in, standing}
 use Rattle.text_find.specs.FindLines.{Screens, all_found, all_passed, found_from, found_in, found_of, lines_found, passed_at, rows_from, rows_within}
-use Rattle.text_find.specs.Lines.{IsStill, byte_lines, chunk_lines, chunk_lines_at, from_lines, less_line, less_lines, passed_line, passed_lines}
+use Rattle.text_find.specs.Lines.{IsHeld, IsStill, byte_lines, chunk_lines, chunk_lines_at, from_lines, less_line, less_lines, passed_line, passed_lines}
 use Rattle.chunk_walk.proofs.AskedLemmas.{asked, early, past_due}
 use Rattle.text_find.proofs.NowhereLemmas.{within_start, within_whole}
 
@@ -104,11 +104,11 @@ chunk_is text index due screen before bytes =
 
 -- ---- where a screen stays
 
-pointwise_same : (xs : List ℕ) → pointwise nat_eq xs xs ≡ true
+pub pointwise_same : (xs : List ℕ) → pointwise nat_eq xs xs ≡ true
 pointwise_same [] = refl
 pointwise_same (x ∷ xs) = rw (eq-eqb x x refl) (pointwise_same xs)
 
-fewer_before : (p : Place → Bool) (places : List Place) (n : ℕ) → n < length places → p (place_at places n) ≡ true
+pub fewer_before : (p : Place → Bool) (places : List Place) (n : ℕ) → n < length places → p (place_at places n) ≡ true
     → count_by p (take n places) < count_by p places
 fewer_before p places n lt passes =
     omega (arith, count_by_more_yes p places n (place_in 0 0) lt passes, sum_by-take-drop (λ x. cond (p x) 1 0) places (n + 1))
@@ -202,46 +202,64 @@ not_passed index due len first firsts last lasts one places other others n none 
 pub places_kept : (text : List ℕ) (screen : List Row) (still : Standing) → IsStill text screen still → still.places.items ≡ standing text still.rows.items
 places_kept text screen still is = is.places ∙ ap (standing text) (sym is.rows)
 
+-- what tells of a screen tells where the text stands on it
+pub still_held : (text : List ℕ) (screen : List Row) (still : Standing) → IsStill text screen still → IsHeld text screen still
+still_held text screen still is = record { places = is.places; stood = places_kept text screen still is; rows = inr is.rows }
+
+-- and of it, where the text stands somewhere
+pub held_still : (text : List ℕ) (screen : List Row) (still : Standing) → (still.places.items ≡ [] → ⊥) → IsHeld text screen still → IsStill text screen still
+held_still text screen still stands held = elim held.rows [
+  | inl none ↦ absurd (stands none)
+  | inr rows ↦ record { rows = rows; places = held.places }
+]
+
+-- rows that are those of a screen
+pub held_on : (text : List ℕ) (screen : List Row) (one other : Standing) → one.rows.items ≡ other.rows.items → one.places.items ≡ standing text one.rows.items → IsStill text screen other
+    → IsHeld text screen one
+held_on text screen one other same stood is = record {
+  places = stood ∙ ap (standing text) (same ∙ is.rows);
+  stood = stood;
+  rows = inr (same ∙ is.rows);
+}
+
+-- what doesn't depend on the rows where the text stands nowhere
+pub held_by : (f : List Row → List Place → List ℕ) (text : List ℕ) (screen : List Row) (still : Standing) → ((r r' : List Row) → f r [] ≡ f r' []) → IsHeld text screen still
+    → f still.rows.items still.places.items ≡ f screen (standing text screen)
+held_by f text screen still apart held = elim held.rows [
+  | inl none ↦ ap (f still.rows.items) none ∙ apart still.rows.items screen ∙ ap (f screen) (sym none ∙ held.places)
+  | inr rows ↦ ap (f still.rows.items) held.places ∙ ap (λ r. f r (standing text screen)) rows
+]
+
 -- what passed, by what is kept of both screens
 pub passed_by : (text : List ℕ) (index due len : ℕ) (first : List Row) (firsts : List Place) (last : List Row) (lasts : List Place) (screen screen' : List Row) (one other : Standing)
-    → IsStill text screen one → IsStill text screen' other
+    → IsHeld text screen one → IsStill text screen' other
     → passed_lines index due len first firsts last lasts one.rows.items one.places.items other.rows.items other.places.items
     ≡ passed_lines index due len first firsts last lasts screen (standing text screen) screen' (standing text screen')
 passed_by text index due len first firsts last lasts screen screen' one other is is' =
-    ap (λ ps. passed_lines index due len first firsts last lasts one.rows.items ps other.rows.items other.places.items) is.places
-    ∙ ap (λ r. passed_lines index due len first firsts last lasts r (standing text screen) other.rows.items other.places.items) is.rows
+    held_by (λ r ps. passed_lines index due len first firsts last lasts r ps other.rows.items other.places.items) text screen one (λ r r'. refl) is
     ∙ ap (λ ps. passed_lines index due len first firsts last lasts screen (standing text screen) other.rows.items ps) is'.places
     ∙ ap (λ r. passed_lines index due len first firsts last lasts screen (standing text screen) r (standing text screen')) is'.rows
 
--- where no row differs, the screens are the same
-pub same_screens : (text : List ℕ) (screen screen' : List Row) (one other : Standing) → IsStill text screen one → IsStill text screen' other
-    → one.rows.items ≡ other.rows.items → screen' ≡ screen
-same_screens text screen screen' one other is is' same = sym is'.rows ∙ sym same ∙ is.rows
-
 less_is : (sign index due : ℕ) (text : List ℕ) (len : ℕ) (screen screen' : List Row) (one other : Standing)
-    → len ≡ length text → IsStill text screen one → IsStill text screen' other
+    → len ≡ length text → IsHeld text screen one → IsHeld text screen' other
     → less_lines sign index due len one.rows.items one.places.items other.rows.items other.places.items
     ≡ less_lines sign index due (length text) screen (standing text screen) screen' (standing text screen')
 less_is sign index due text len screen screen' one other l is is' =
     ap (λ n. less_lines sign index due n one.rows.items one.places.items other.rows.items other.places.items) l
-    ∙ ap (λ ps. less_lines sign index due (length text) one.rows.items ps other.rows.items other.places.items) is.places
-    ∙ ap (λ r. less_lines sign index due (length text) r (standing text screen) other.rows.items other.places.items) is.rows
-    ∙ ap (λ ps. less_lines sign index due (length text) screen (standing text screen) other.rows.items ps) is'.places
-    ∙ ap (λ r. less_lines sign index due (length text) screen (standing text screen) r (standing text screen')) is'.rows
+    ∙ held_by (λ r ps. less_lines sign index due (length text) r ps other.rows.items other.places.items) text screen one (λ r r'. refl) is
+    ∙ held_by (λ r ps. less_lines sign index due (length text) screen (standing text screen) r ps) text screen' other (λ r r'. refl) is'
 
 bytes_are : (text : List ℕ) (index due : ℕ) (first last : List Row) (one other : Standing) (screen : List ℕ → List Row) (before bytes : List ℕ) (n : ℕ)
-    → IsStill text first one → IsStill text last other
+    → IsHeld text first one → IsHeld text last other
     → flat_map (byte_lines text index due one.rows.items one.places.items other.rows.items other.places.items screen before bytes) (range_with_len 0 n)
     ≡ flat_map (byte_lines text index due first (standing text first) last (standing text last) screen before bytes) (range_with_len 0 n)
 bytes_are text index due first last one other screen before bytes n is is' =
-    ap (λ ps. flat_map (byte_lines text index due one.rows.items ps other.rows.items other.places.items screen before bytes) (range_with_len 0 n)) is.places
-    ∙ ap (λ r. flat_map (byte_lines text index due r (standing text first) other.rows.items other.places.items screen before bytes) (range_with_len 0 n)) is.rows
-    ∙ ap (λ ps. flat_map (byte_lines text index due first (standing text first) other.rows.items ps screen before bytes) (range_with_len 0 n)) is'.places
-    ∙ ap (λ r. flat_map (byte_lines text index due first (standing text first) r (standing text last) screen before bytes) (range_with_len 0 n)) is'.rows
+    held_by (λ r ps. flat_map (byte_lines text index due r ps other.rows.items other.places.items screen before bytes) (range_with_len 0 n)) text first one (λ r r'. refl) is
+    ∙ held_by (λ r ps. flat_map (byte_lines text index due first (standing text first) r ps screen before bytes) (range_with_len 0 n)) text last other (λ r r'. refl) is'
 
 -- the three parts of a chunk's lines
 pub chunk_in_three : (text : List ℕ) (index due len : ℕ) (screen : List ℕ → List Row) (before bytes : List ℕ) (one other : Standing)
-    → len ≡ length text → IsStill text (screen before) one → IsStill text (screen (before ++ bytes)) other
+    → len ≡ length text → IsHeld text (screen before) one → IsStill text (screen (before ++ bytes)) other
     → (less_lines 45 index due len one.rows.items one.places.items other.rows.items other.places.items
     ++ flat_map (byte_lines text index due one.rows.items one.places.items other.rows.items other.places.items screen before bytes) (range_with_len 0 (length bytes)))
     ++ less_lines 43 index due len other.rows.items other.places.items one.rows.items one.places.items
@@ -249,8 +267,8 @@ pub chunk_in_three : (text : List ℕ) (index due len : ℕ) (screen : List ℕ 
 chunk_in_three text index due len screen before bytes one other l is is' =
     let first = rows_within screen before bytes 0 in
     let last = rows_within screen before bytes (length bytes) in
-    let here : IsStill text first one = subst (λ r. IsStill text r one) (sym (within_start screen before bytes)) is in
-    let there : IsStill text last other = subst (λ r. IsStill text r other) (sym (within_whole screen before bytes)) is' in
+    let here : IsHeld text first one = subst (λ r. IsHeld text r one) (sym (within_start screen before bytes)) is in
+    let there : IsHeld text last other = subst (λ r. IsHeld text r other) (sym (within_whole screen before bytes)) (still_held text (screen (before ++ bytes)) other is') in
     ap (λ l. (l ++ flat_map (byte_lines text index due one.rows.items one.places.items other.rows.items other.places.items screen before bytes) (range_with_len 0 (length bytes)))
     ++ less_lines 43 index due len other.rows.items other.places.items one.rows.items one.places.items) (less_is 45 index due text len first last one other l here there)
     ∙ ap (λ l. (less_lines 45 index due (length text) first (standing text first) last (standing text last) ++ l)

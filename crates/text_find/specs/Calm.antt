@@ -1,7 +1,6 @@
 -- Private: bytes at which nothing of a text passes inside a chunk.
-use Rattle.std.specs.Prelude.{◌≡◌, ℕ, ◌<◌, ◌≤◌, Bool, false, true, List, [], ◌++◌, length, take}
+use Rattle.std.specs.Prelude.{◌≡◌, ◌≢◌, ℕ, ◌<◌, ◌≤◌, Bool, false, true, List, [], ◌++◌, length, take}
 use Rattle.std.specs.List.{flat_map, range_with_len}
-use Rattle.standings.specs.Lag.{Lags}
 use Rattle.standings.specs.Rows.{Row}
 use Rattle.standings.specs.Standing.{standing}
 use Rattle.standings.specs.declared.left.Standing.{Standing}
@@ -35,7 +34,6 @@ pub record IsInside {P T : Type 0} (shows : P → T → List ℕ → Type 0) (sc
   pub still : AreStill text (screens profile (first chunks index ++ take start (bytes_at chunks index))) steps.sides
   pub calm : IsCalm text (screens profile) (first chunks index) (bytes_at chunks index) start
   pub count : steps.count ≡ index
-  pub none : (rows : List Row) → Lags steps.lag rows rows
 
 -- so many bytes of a chunk were played ahead
 pub record IsAhead {P T : Type 0} (shows : P → T → List ℕ → Type 0) (screens : Screens P) (profile : P) (text before bytes : List ℕ)
@@ -44,7 +42,7 @@ pub record IsAhead {P T : Type 0} (shows : P → T → List ℕ → Type 0) (scr
   pub between : AreBetween text (screens profile before) (screens profile (before ++ take taken bytes)) ends
 
 -- a piece of a chunk was played ahead, so many of the bytes, and where that is said surely no line tells of them, else what
--- stood before stays
+-- stood before it is told, where the text stood
 pub record IsPiece {P T : Type 0} (shows : P → T → List ℕ → Type 0) (screens : Screens P) (text bytes : List ℕ) (ends ends' : Sides) (steps steps' : Steps)
     (ahead ahead' : T) (taken : ℕ) (surely : Bool) : Type 0 where
   pub some : 0 < taken
@@ -54,7 +52,8 @@ pub record IsPiece {P T : Type 0} (shows : P → T → List ℕ → Type 0) (scr
   pub between : (profile : P) (first before : List ℕ) → shows profile ahead before → AreBetween text (screens profile first) (screens profile before) ends
       → AreBetween text (screens profile first) (screens profile (before ++ take taken bytes)) ends'
   pub trails : (profile : P) (first before : List ℕ) → shows profile ahead before → AreBetween text (screens profile first) (screens profile before) ends
-      → IsTrailing ends steps → surely ≡ true → IsTrailing ends' steps'
+      → IsTrailing text ends steps → IsTrailing text ends' steps'
   pub calm : (profile : P) (first before : List ℕ) → shows profile ahead before → AreBetween text (screens profile first) (screens profile before) ends
-      → IsTrailing ends steps → surely ≡ true → NonePass text (screens profile first) (screens profile) before bytes taken
-  pub stays : surely ≡ false → steps'.sides ≡ steps.sides
+      → IsTrailing text ends steps → surely ≡ true → NonePass text (screens profile first) (screens profile) before bytes taken
+  pub stood : (profile : P) (first before : List ℕ) → shows profile ahead before → AreBetween text (screens profile first) (screens profile before) ends
+      → IsTrailing text ends steps → surely ≡ false → ends.after.places.items ≢ [] → IsStill text (screens profile before) steps'.sides.before

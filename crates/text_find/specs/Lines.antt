@@ -28,9 +28,15 @@ pub record IsStill (text : List ℕ) (screen : List Row) (still : Standing) : Ty
   pub rows : still.rows.items ≡ screen
   pub places : still.places.items ≡ standing text screen
 
--- these tell two screens, of which one lags so behind the other
+-- and this where a text stands on it, but where that is nowhere the rows may be those of another screen on which it stands nowhere
+pub record IsHeld (text : List ℕ) (screen : List Row) (still : Standing) : Type 0 where
+  pub places : still.places.items ≡ standing text screen
+  pub stood : still.places.items ≡ standing text still.rows.items
+  pub rows : (still.places.items ≡ []) ⊎ (still.rows.items ≡ screen)
+
+-- these tell two screens, and how the rows before lag behind those after
 pub record AreBetween (text : List ℕ) (one other : List Row) (sides : Sides) : Type 0 where
-  pub before : IsStill text one sides.before
+  pub before : IsHeld text one sides.before
   pub after : IsStill text other sides.after
   pub lag : Lags sides.lag sides.before.rows.items sides.after.rows.items
 
@@ -43,10 +49,10 @@ pub record IsLagging (ends : Sides) (steps : Steps) : Type 0 where
   pub before : Lags steps.lag steps.sides.before.rows.items ends.after.rows.items
   pub after : Lags steps.sides.lag steps.sides.before.rows.items steps.sides.after.rows.items
 
--- and where a text stands on what is played ahead, what stood before is the same
-pub record IsTrailing (ends : Sides) (steps : Steps) : Type 0 where
+-- and it tells where a text stands on its rows
+pub record IsTrailing (text : List ℕ) (ends : Sides) (steps : Steps) : Type 0 where
   pub lags : IsLagging ends steps
-  pub same : (ends.after.places.items ≡ []) ⊎ ((steps.sides.before.rows.items ≡ ends.after.rows.items) × (steps.sides.before.places.items ≡ ends.after.places.items))
+  pub stood : steps.sides.before.places.items ≡ standing text steps.sides.before.rows.items
 
 -- so many chunks were played ahead, and no more behind
 pub record AreFound {P T : Type 0} (shows : P → T → List ℕ → Type 0) (screens : Screens P) (profile : P) (chunks : List Chunk) (index : ℕ)
@@ -55,7 +61,7 @@ pub record AreFound {P T : Type 0} (shows : P → T → List ℕ → Type 0) (sc
   pub still : AreStill text (screens profile (first chunks index)) ends
   pub count : steps.count ≤ index
   pub lagging : shows profile behind (first chunks steps.count)
-  pub trails : IsTrailing ends steps
+  pub trails : IsTrailing text ends steps
 
 -- a terminal has had as many chunks as its count says, and no more than so many
 pub record IsLate {P T : Type 0} (shows : P → T → List ℕ → Type 0) (profile : P) (chunks : List Chunk) (index : ℕ)
@@ -69,7 +75,7 @@ pub record IsReached {P T : Type 0} (shows : P → T → List ℕ → Type 0) (s
   pub played : shows profile behind (first chunks index)
   pub still : AreStill text (screens profile (first chunks index)) steps.sides
   pub count : steps.count ≡ index
-  pub none : (rows : List Row) → Lags steps.lag rows rows
+  pub lag : steps.lag ≡ steps.sides.lag
 
 -- the line of place n, where it is less on the other screen
 abbrev pub less_line : ℕ → ℕ → ℕ → ℕ → List Row → List Place → List Row → List Place → ℕ → List ℕ

@@ -100,7 +100,7 @@ pub(crate) fn end_chunk<T: Plays, F: Finder<T>>(
     ensures found { (profile : T.Profile) (before : List Row)
         → T.shows profile ahead.now (bytes_of_first recording.now.chunks count)
         → AreBetween text.now before (F.screens profile (bytes_of_first recording.now.chunks count)) ends.old
-        → IsTrailing ends.old steps.old → IsLate T.shows profile recording.now.chunks count behind.old steps.old
+        → IsTrailing text.now ends.old steps.old → IsLate T.shows profile recording.now.chunks count behind.old steps.old
         → OnOk result (AreFound T.shows F.screens profile recording.now.chunks count text.now
         ahead.now ends.new behind.new steps.new) }
 {

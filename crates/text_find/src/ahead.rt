@@ -49,14 +49,14 @@ pub(crate) fn play_ahead<T: Plays, F: Finder<T>>(
         (F.screens profile before) (F.screens profile (before ++ bytes.now)) ends.new) }
     ensures within { IfOk result (λ passing. IfSome passing (λ start. start ≤ length bytes.now)) }
     ensures trails { (profile : T.Profile) (before : List ℕ) → T.shows profile ahead.old before
-        → AreStill text.now (F.screens profile before) ends.old → IsTrailing ends.old steps.old
-        → IfOk result (λ passing. passing ≡ None → IsTrailing ends.new steps.new) }
+        → AreStill text.now (F.screens profile before) ends.old → IsTrailing text.now ends.old steps.old
+        → IfOk result (λ passing. passing ≡ None → IsTrailing text.now ends.new steps.new) }
     ensures calm { (profile : T.Profile) (before : List ℕ) → T.shows profile ahead.old before
-        → AreStill text.now (F.screens profile before) ends.old → IsTrailing ends.old steps.old
+        → AreStill text.now (F.screens profile before) ends.old → IsTrailing text.now ends.old steps.old
         → IfOk result (λ passing. passing ≡ None
         → IsCalm text.now (F.screens profile) before bytes.now (length bytes.now)) }
     ensures stood { (profile : T.Profile) (before : List ℕ) → T.shows profile ahead.old before
-        → AreStill text.now (F.screens profile before) ends.old → IsTrailing ends.old steps.old
+        → AreStill text.now (F.screens profile before) ends.old → IsTrailing text.now ends.old steps.old
         → IfOk result (λ passing. IfSome passing (λ start.
         HasStood text.now (F.screens profile) before bytes.now start steps.new.sides.before)) }
 {
@@ -89,14 +89,14 @@ fn play_pieces<T: Plays, F: Finder<T>>(
         → IfOk result (λ played. IsAhead T.shows F.screens profile text.now before bytes.now
         played.0 ahead.new ends.new) }
     ensures trails { (profile : T.Profile) (before : List ℕ) → T.shows profile ahead.old before
-        → AreStill text.now (F.screens profile before) ends.old → IsTrailing ends.old steps.old
-        → IfOk result (λ played. played.1 ≡ None → IsTrailing ends.new steps.new) }
+        → AreStill text.now (F.screens profile before) ends.old → IsTrailing text.now ends.old steps.old
+        → IfOk result (λ played. played.1 ≡ None → IsTrailing text.now ends.new steps.new) }
     ensures calm { (profile : T.Profile) (before : List ℕ) → T.shows profile ahead.old before
-        → AreStill text.now (F.screens profile before) ends.old → IsTrailing ends.old steps.old
+        → AreStill text.now (F.screens profile before) ends.old → IsTrailing text.now ends.old steps.old
         → IfOk result (λ played. played.1 ≡ None
         → IsCalm text.now (F.screens profile) before bytes.now played.0) }
     ensures stood { (profile : T.Profile) (before : List ℕ) → T.shows profile ahead.old before
-        → AreStill text.now (F.screens profile before) ends.old → IsTrailing ends.old steps.old
+        → AreStill text.now (F.screens profile before) ends.old → IsTrailing text.now ends.old steps.old
         → IfOk result (λ played. IfSome played.1 (λ start.
         HasStood text.now (F.screens profile) before bytes.now start steps.new.sides.before)) }
 {
@@ -167,7 +167,7 @@ fn play_where_none_stands<T: Plays, F: Finder<T>>(
     Ok((taken, ends.after.places.is_empty()))
 }
 
-/// The same where the text stands. What stood before the piece is kept up only where rows changed.
+/// The same where the text stands. What stood before the piece is kept.
 fn play_where_it_stands<T: Plays, F: Finder<T>>(
     alloc: Global,
     text: &[char],
@@ -182,6 +182,8 @@ fn play_where_it_stands<T: Plays, F: Finder<T>>(
     ensures piece { IfOk result (λ played. IsPiece T.shows F.screens text.now bytes.now
         ends.old ends.new steps.old steps.new ahead.old ahead.new played.0 played.1) }
 {
+    trail(steps, ends)?;
+    let since = ends.lag;
     let taken = F::play_quietly(alloc, ahead, text, &ends.after, bytes)?;
     let span = catch_up::<T, F>(ends, ahead, text)?;
     if span.is_none() {
@@ -189,9 +191,6 @@ fn play_where_it_stands<T: Plays, F: Finder<T>>(
     }
     steps.lag = steps.lag.widened(span);
     let (first, one, len) = (&ends.before, &steps.sides.before, text.len());
-    let calm = none_passes(first, one, &ends.after, steps.lag, len);
-    if calm {
-        trail(steps, ends)?;
-    }
+    let calm = none_passes(first, since, one, &ends.after, steps.lag, len);
     Ok((taken, calm))
 }

@@ -1,6 +1,6 @@
 //! A terminal that lags where nothing passes, and what stands on a screen that trails another one.
 
-ghost use Rattle.std.specs.Prelude.{◌≡◌, ◌<◌, ◌≤◌, ◌++◌, false, true, List, ℕ, length, IfOk, OnOk};
+ghost use Rattle.std.specs.Prelude.{◌≡◌, ◌≢◌, ◌<◌, ◌≤◌, ◌++◌, [], false, true, List, ℕ, length, IfOk, OnOk};
 ghost use Rattle.standings.specs.Lag.{Lags};
 ghost use Rattle.standings.specs.Rows.{Row};
 ghost use Rattle.standings.specs.Spans.{Stays};
@@ -10,7 +10,7 @@ ghost use Rattle.text_find.specs.Lines.{AreBetween, AreStill, IsLagging, IsLate,
 use crate::ahead::play;
 use crate::finder::Finder;
 use crate::room::{fit, give_back};
-use crate::sides::{Sides, sides_of};
+use crate::sides::{Sides, no_sides, sides_of};
 use plays::{OutOfMemory, Plays};
 use standings::{Lag, Span};
 use std::alloc::Global;
@@ -38,25 +38,26 @@ pub(crate) fn steps_of<T: Plays, F: Finder<T>>(
     ensures sides { (profile : T.Profile) (bytes : List ℕ) → T.shows profile terminal.now bytes
         → IfOk result (λ steps. AreStill text.now (F.screens profile bytes) steps.sides) }
     ensures count { IfOk result (λ steps. steps.count ≡ count) }
-    ensures none { IfOk result (λ steps. (rows : List Row) → Lags steps.lag rows rows) }
+    ensures lag { IfOk result (λ steps. steps.lag ≡ steps.sides.lag) }
 {
     let sides = sides_of::<T, F>(alloc, terminal, text)?;
-    Ok(Steps {
-        sides,
-        count,
-        lag: Lag::none(),
-    })
+    let lag = sides.lag;
+    Ok(Steps { sides, count, lag })
 }
 
-/// Where the text stands on the screen that is played ahead, what stood before becomes what stands there.
+/// What stood before becomes what stands on the screen that is played ahead.
 pub(crate) fn trail(steps: &mut Steps, ends: &Sides) -> Result<(), OutOfMemory>
     ensures count { steps.new.count ≡ steps.old.count }
-    ensures trails { IsLagging ends.now steps.old → OnOk result (IsTrailing ends.now steps.new) }
+    ensures lags { IsLagging ends.now steps.old → OnOk result (IsLagging ends.now steps.new) }
+    ensures trails { (text : List ℕ) (screen : List Row) → IsStill text screen ends.now.after
+        → IsTrailing text ends.now steps.old → OnOk result (IsTrailing text ends.now steps.new) }
+    ensures stood { (text : List ℕ) (screen : List Row) → IsStill text screen ends.now.after
+        → IsTrailing text ends.now steps.old → OnOk result (IsStill text screen steps.new.sides.before) }
 {
-    if ends.after.places.is_empty() {
+    let lag = steps.lag;
+    if lag.is_none() {
         return Ok(());
     }
-    let lag = steps.lag;
     let span = lag.apart(steps.sides.lag, steps.sides.before.rows.len());
     steps.sides.before.follow_lag(&ends.after, lag)?;
     steps.sides.lag = Lag::of(span);
@@ -67,10 +68,11 @@ pub(crate) fn trail(steps: &mut Steps, ends: &Sides) -> Result<(), OutOfMemory>
 /// Brings a terminal that lags to where something of the text may pass inside a chunk: behind its first bytes, at which
 /// nothing does. What stands before and after a piece becomes what stands there. Says whether it did: else memory for what
 /// stands was refused, and the terminal has had as many chunks as its count says.
-pub(crate) fn reach<T: Plays>(
+pub(crate) fn reach<T: Plays, F: Finder<T>>(
     alloc: Global,
     recording: &Recording,
     index: usize,
+    text: &[char],
     calm: &[u8],
     ends: &mut Sides,
     behind: &mut T,
@@ -83,22 +85,83 @@ pub(crate) fn reach<T: Plays>(
         → IfOk result (λ done. done ≡ true
         → T.shows profile behind.new (bytes_of_first recording.now.chunks index ++ calm.now)) }
     ensures count { IfOk result (λ done. done ≡ true → steps.new.count ≡ index) }
-    ensures steps { (text : List ℕ) (screen : List ℕ → List Row) (before : List ℕ) (last : List Row)
-        → AreBetween text (screen before) last ends.old → IsLagging ends.old steps.old
-        → (0 < length calm.now → IsStill text (screen (before ++ calm.now)) steps.old.sides.before)
-        → IfOk result (λ done. done ≡ true → AreStill text (screen (before ++ calm.now)) steps.new.sides) }
-    ensures none { IfOk result (λ done. done ≡ true → (rows : List Row) → Lags steps.new.lag rows rows) }
+    ensures steps { (profile : T.Profile) (last : List Row)
+        → IsLate T.shows profile recording.now.chunks index behind.old steps.old
+        → AreBetween text.now (F.screens profile (bytes_of_first recording.now.chunks index)) last ends.old
+        → IsLagging ends.old steps.old → (0 < length calm.now
+        → IsStill text.now (F.screens profile (bytes_of_first recording.now.chunks index ++ calm.now)) steps.old.sides.before)
+        → IfOk result (λ done. done ≡ true → AreStill text.now
+        (F.screens profile (bytes_of_first recording.now.chunks index ++ calm.now)) steps.new.sides) }
     ensures ends { (text : List ℕ) (one other : List Row) → AreBetween text one other ends.old
         → AreBetween text one other ends.new }
 {
+    let known = is_known(calm, ends);
+    if !known {
+        return reach_anew::<T, F>(alloc, recording, index, text, behind, steps);
+    }
     let Ok(()) = stand_behind(alloc, calm, ends, steps) else {
         return Ok(false);
     };
-    play_chunks(alloc, recording, steps.count, index, behind)?;
+    bring_to(alloc, recording, index, behind, steps)?;
     play(alloc, behind, calm)?;
-    steps.count = index;
-    steps.lag = Lag::none();
     Ok(true)
+}
+
+/// Whether the rows behind a chunk's first bytes are told: not where they are none and the text stands nowhere before.
+fn is_known(calm: &[u8], ends: &Sides) -> bool
+    ensures known { result ≡ true → length calm.now ≡ 0 → ends.now.before.places.items ≢ [] }
+    ensures none { result ≡ false → length calm.now ≡ 0 }
+{
+    !calm.is_empty() || !ends.before.places.is_empty()
+}
+
+/// Brings a terminal that lags to where a chunk begins, and looks up what stands there. What was kept of it is given back
+/// first. Says whether there was memory for that: else the terminal has had as many chunks as its count says.
+fn reach_anew<T: Plays, F: Finder<T>>(
+    alloc: Global,
+    recording: &Recording,
+    index: usize,
+    text: &[char],
+    behind: &mut T,
+    steps: &mut Steps,
+) -> Result<bool, OutOfMemory>
+    requires { index ≤ length recording.now.chunks }
+    ensures late { (profile : T.Profile) → IsLate T.shows profile recording.now.chunks index behind.old steps.old
+        → IfOk result (λ done. done ≡ false → IsLate T.shows profile recording.now.chunks index behind.new steps.new) }
+    ensures played { (profile : T.Profile) → IsLate T.shows profile recording.now.chunks index behind.old steps.old
+        → IfOk result (λ done. done ≡ true
+        → T.shows profile behind.new (bytes_of_first recording.now.chunks index)) }
+    ensures count { IfOk result (λ done. done ≡ true → steps.new.count ≡ index) }
+    ensures still { (profile : T.Profile) → IsLate T.shows profile recording.now.chunks index behind.old steps.old
+        → IfOk result (λ done. done ≡ true
+        → AreStill text.now (F.screens profile (bytes_of_first recording.now.chunks index)) steps.new.sides) }
+{
+    steps.sides = no_sides(alloc);
+    bring_to(alloc, recording, index, behind, steps)?;
+    let Ok(found) = steps_of::<T, F>(alloc, behind, index, text) else {
+        return Ok(false);
+    };
+    *steps = found;
+    Ok(true)
+}
+
+/// Plays the chunks that a terminal lags behind, up to and without one.
+fn bring_to<T: Plays>(
+    alloc: Global,
+    recording: &Recording,
+    index: usize,
+    behind: &mut T,
+    steps: &mut Steps,
+) -> Result<(), OutOfMemory>
+    requires { index ≤ length recording.now.chunks }
+    ensures played { (profile : T.Profile) → IsLate T.shows profile recording.now.chunks index behind.old steps.old
+        → OnOk result (T.shows profile behind.new (bytes_of_first recording.now.chunks index)) }
+    ensures count { OnOk result (steps.new.count ≡ index) }
+    ensures sides { steps.new.sides ≡ steps.old.sides }
+{
+    play_chunks(alloc, recording, steps.count, index, behind)?;
+    steps.count = index;
+    Ok(())
 }
 
 /// What stands before and after a piece becomes what stands behind a chunk's first bytes: before it that stands already,
@@ -109,6 +172,7 @@ fn stand_behind(
     ends: &mut Sides,
     steps: &mut Steps,
 ) -> Result<(), OutOfMemory>
+    requires { length calm.now ≡ 0 → ends.old.before.places.items ≢ [] }
     ensures count { steps.new.count ≡ steps.old.count }
     ensures steps { (text : List ℕ) (screen : List ℕ → List Row) (before : List ℕ) (last : List Row)
         → AreBetween text (screen before) last ends.old → IsLagging ends.old steps.old

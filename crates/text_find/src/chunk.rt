@@ -75,7 +75,7 @@ pub(crate) fn put_chunk_at<T: Plays, F: Finder<T>, W: Write>(
         return Ok(true);
     };
     let calm = &bytes[..start];
-    if !reach(alloc, recording, index, calm, ends, behind, steps)? {
+    if !reach::<T, F>(alloc, recording, index, text, calm, ends, behind, steps)? {
         return Ok(false);
     }
     put_chunk_behind::<T, F, W>(
@@ -135,6 +135,7 @@ pub(crate) fn put_chunk_behind<T: Plays, F: Finder<T>, W: Write>(
         writer,
     )?;
     steps.count = index + 1;
+    steps.lag = steps.sides.lag;
     settle(ends)?;
     Ok(())
 }

@@ -12,7 +12,7 @@ ghost use Rattle.text_find.specs.Pieces.{AreQuiet};
 use crate::ahead::play;
 use crate::finder::Finder;
 use crate::foretold::{LetterRun, foresee_side};
-use crate::lines::{put_come, put_gone, put_passed};
+use crate::lines::{alone_of, put_come, put_gone, put_passed};
 use crate::sides::{Sides, catch_up, settle};
 use plays::{OutOfMemory, Plays};
 use standings::Moment;
@@ -55,10 +55,11 @@ pub(crate) fn put_chunk<T: Plays, F: Finder<T>, W: Write>(
         → OnOk result (AreStill text.now (F.screens profile (before ++ bytes.now)) steps.new) }
 {
     gives_join::<W>();
-    put_gone(alloc, moment, ends, writer)?;
+    let alone = alone_of(alloc, ends, moment.len);
+    put_gone(alloc, moment, ends, &alone, writer)?;
     let rest = &bytes[start..];
     put_bytes::<T, F, W>(alloc, text, moment, ends, rest, steps, behind, writer)?;
-    put_come(alloc, moment, ends, writer)?;
+    put_come(alloc, moment, ends, alone, writer)?;
     Ok(())
 }
 
@@ -129,8 +130,8 @@ fn play_step<T: Plays, F: Finder<T>>(
         → IfOk result (λ taken. AreBetween text.now (F.screens profile before)
         (F.screens profile (before ++ take taken bytes.now)) steps.new) }
 {
-    let Some(foretold) = F::foretells(behind, text, &steps.before, bytes, letters) else {
-        let taken = F::play_quietly(alloc, behind, text, &steps.before, bytes)?;
+    let Some(foretold) = F::foretells(behind, text, &steps.after, bytes, letters) else {
+        let taken = F::play_quietly(alloc, behind, text, &steps.after, bytes)?;
         catch_up::<T, F>(steps, behind, text)?;
         return Ok(taken);
     };

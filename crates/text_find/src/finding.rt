@@ -162,7 +162,7 @@ fn put_lines<T: Plays, F: Finder<T>, W: Write>(
     let end = recording.due_count(to).max(start);
     let mut ends = sides_of::<T, F>(alloc, &ahead, text)?;
     let mut steps = steps_of::<T, F>(alloc, behind, start, text)?;
-    put_from(alloc, from, start, text.len(), &ends.before, writer)?;
+    put_from(alloc, from, start, text.len(), &ends.after, writer)?;
     put_between::<T, F, W>(
         alloc, recording, start, end, text, &mut ends, ahead, &mut steps, behind, writer,
     )?;

@@ -7,7 +7,7 @@ ghost use Rattle.standings.specs.Spans.{Stays};
 ghost use Rattle.standings.specs.Standing.{standing};
 ghost use Rattle.text_find.specs.Calm.{IsPiece, NonePass};
 ghost use Rattle.text_find.specs.Foretold.{HasRoom, IsForetold, IsNarrow, IsWithin, KeepsIn, foretold_rows, taken_by};
-ghost use Rattle.text_find.specs.Lines.{AreBetween, IsLagging};
+ghost use Rattle.text_find.specs.Lines.{AreBetween, IsLagging, IsStill, IsTrailing};
 ghost use Rattle.text_find.specs.Pieces.{AreQuiet};
 
 use crate::ahead::play;
@@ -129,21 +129,38 @@ pub(crate) fn play_foretold<T: Plays, F: Finder<T>>(
         ends.old ends.new steps.old steps.new ahead.old ahead.new played.0 played.1) }
 {
     let surely = foretold.is_calm(&ends.after);
+    trail_unless(surely, steps, ends)?;
+    let since = ends.lag;
     let taken = foretold.taken();
     play(alloc, ahead, &bytes[..taken])?;
     change(foretold, letters, text, ends, steps)?;
-    let calm = surely
-        || none_passes(
-            &ends.before,
-            &steps.sides.before,
-            &ends.after,
-            steps.lag,
-            text.len(),
-        );
-    if calm {
-        trail(steps, ends)?;
+    if surely {
+        return Ok((taken, true));
     }
+    let calm = none_passes(
+        &ends.before,
+        since,
+        &steps.sides.before,
+        &ends.after,
+        steps.lag,
+        text.len(),
+    );
     Ok((taken, calm))
+}
+
+/// What stood before becomes what stands before what is foretold, unless surely nothing of the text passes at that.
+fn trail_unless(calm: bool, steps: &mut Steps, ends: &Sides) -> Result<(), OutOfMemory>
+    ensures count { steps.new.count ≡ steps.old.count }
+    ensures lags { IsLagging ends.now steps.old → OnOk result (IsLagging ends.now steps.new) }
+    ensures trails { (text : List ℕ) (screen : List Row) → IsStill text screen ends.now.after
+        → IsTrailing text ends.now steps.old → OnOk result (IsTrailing text ends.now steps.new) }
+    ensures stood { calm ≡ false → (text : List ℕ) (screen : List Row) → IsStill text screen ends.now.after
+        → IsTrailing text ends.now steps.old → OnOk result (IsStill text screen steps.new.sides.before) }
+{
+    if calm {
+        return Ok(());
+    }
+    trail(steps, ends)
 }
 
 /// What stands after is what stands behind what is foretold, and what lags behind it lags so much more.
@@ -156,6 +173,7 @@ fn change(
 ) -> Result<(), OutOfMemory>
     requires { IsNarrow foretold }
     ensures count { steps.new.count ≡ steps.old.count }
+    ensures before { ends.new.before ≡ ends.old.before }
     ensures sides { steps.new.sides ≡ steps.old.sides }
     ensures lags { IsLagging ends.old steps.old → OnOk result (IsLagging ends.new steps.new) }
     ensures between { (first before after : List Row) → HasRoom foretold letters.now before

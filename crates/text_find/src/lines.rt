@@ -1,17 +1,17 @@
 //! The lines of what stands on a screen, of what is less on another, and of what passed inside a chunk.
 
-ghost use Rattle.std.specs.Prelude.{◌≡◌, ◌<◌, ◌++◌, [], List, ℕ, length, true, OnErr, OnOk};
+ghost use Rattle.std.specs.Prelude.{◌≡◌, ◌<◌, ◌≤◌, ◌++◌, [], false, List, ℕ, length, true, IfSome, OnErr, OnOk};
 ghost use Rattle.standings.specs.Found.{found_line};
 ghost use Rattle.standings.specs.Lag.{Lags};
-ghost use Rattle.standings.specs.Less.{ArePassed, HasAll, HasEach, IsTold, PairOff};
+ghost use Rattle.standings.specs.Less.{ArePassed, HasAll, HasEach, IsTold, PairOff, may_pass};
 ghost use Rattle.standings.specs.Lines.{AreReady};
 ghost use Rattle.standings.specs.Rows.{Row};
-ghost use Rattle.standings.specs.Standing.{place_at};
+ghost use Rattle.standings.specs.Standing.{place_at, standing};
 ghost use Rattle.standings.specs.declared.place.Place.{Place};
 ghost use Rattle.tape_core.specs.Devices.{Gave};
 ghost use Rattle.text_find.specs.Lines.{AreBetween, Began, IsStill, end_lines, from_lines, less_line, less_lines, passed_line, passed_lines, standing_lines};
 
-use crate::sides::Sides;
+use crate::sides::{Sides, stands_nowhere};
 use plays::OutOfMemory;
 use standings::{Alone, Lag, Less, Lines, Moment, Passed, Standing, may_pass};
 use std::alloc::Global;
@@ -87,126 +87,124 @@ fn put_at<W: Write>(
     Ok(())
 }
 
-/// Writes the lines of what stood before some bytes and is less after them.
+/// The places of both ends of some bytes that stand alone, if the text stands at one of them and there was memory.
+pub(crate) fn alone_of(alloc: Global, ends: &Sides, len: usize) -> Option<Alone>
+    ensures { (text : List ℕ) (one other : List Row) → length text ≡ len → AreBetween text one other ends.now
+        → IfSome result (λ alone. PairOff ends.now.before.rows.items ends.now.before.places.items
+        ends.now.after.rows.items ends.now.after.places.items alone.one.items alone.other.items) }
+{
+    if stands_nowhere(ends) {
+        return None;
+    }
+    match Alone::of(alloc, &ends.before, &ends.after, ends.lag, len) {
+        Ok(alone) => Some(alone),
+        Err(_) => None,
+    }
+}
+
+/// Writes the lines of what stood before some bytes and is less after them, by the places of both ends that stand alone, if
+/// it is told of those.
 pub(crate) fn put_gone<W: Write>(
     alloc: Global,
     moment: Moment,
     ends: &Sides,
+    alone: &Option<Alone>,
     writer: &mut Watched<W>,
 ) -> Result<(), OutOfMemory>
-    ensures gave { (text : List ℕ) (one other : List Row) → length text ≡ moment.len → AreBetween text one other ends.now
+    ensures gave { IfSome alone.now (λ told. PairOff ends.now.before.rows.items ends.now.before.places.items
+        ends.now.after.rows.items ends.now.after.places.items told.one.items told.other.items)
         → OnOk result (Gave W.contents writer.old writer.new
         (less_lines 45 moment.index moment.due moment.len
         ends.now.before.rows.items ends.now.before.places.items ends.now.after.rows.items ends.now.after.places.items)) }
-    ensures front { (text : List ℕ) (one other : List Row) → length text ≡ moment.len → AreBetween text one other ends.now
+    ensures front { IfSome alone.now (λ told. PairOff ends.now.before.rows.items ends.now.before.places.items
+        ends.now.after.rows.items ends.now.after.places.items told.one.items told.other.items)
         → OnErr result (Began W.contents writer.old writer.new
         (less_lines 45 moment.index moment.due moment.len
         ends.now.before.rows.items ends.now.before.places.items ends.now.after.rows.items ends.now.after.places.items)) }
 {
-    gives_join::<W>();
-    let nowhere = ends.before.places.is_empty();
-    if nowhere {
-        return Ok(());
-    }
-    match Alone::of(alloc, &ends.before, &ends.after, ends.lag, moment.len) {
-        Ok(alone) => {
-            put_less(
-                alloc,
-                b'-',
-                moment,
-                &ends.before,
-                &ends.after,
-                &alone,
-                writer,
-            )
-        }
-        Err(_) => {
-            let less = Less::untold();
-            put_told(
-                alloc,
-                b'-',
-                moment,
-                &ends.before,
-                &ends.after,
-                &less,
-                writer,
-            )
-        }
-    }
+    put_less(
+        alloc,
+        b'-',
+        moment,
+        &ends.before,
+        &ends.after,
+        alone,
+        writer,
+    )
 }
 
-/// Writes the lines of what stands after some bytes and was less before them.
+/// The same of what stands after them and was less before.
 pub(crate) fn put_come<W: Write>(
     alloc: Global,
     moment: Moment,
     ends: &Sides,
+    alone: Option<Alone>,
     writer: &mut Watched<W>,
 ) -> Result<(), OutOfMemory>
-    ensures gave { (text : List ℕ) (one other : List Row) → length text ≡ moment.len → AreBetween text one other ends.now
+    ensures gave { IfSome alone (λ told. PairOff ends.now.before.rows.items ends.now.before.places.items
+        ends.now.after.rows.items ends.now.after.places.items told.one.items told.other.items)
         → OnOk result (Gave W.contents writer.old writer.new
         (less_lines 43 moment.index moment.due moment.len
         ends.now.after.rows.items ends.now.after.places.items ends.now.before.rows.items ends.now.before.places.items)) }
-    ensures front { (text : List ℕ) (one other : List Row) → length text ≡ moment.len → AreBetween text one other ends.now
+    ensures front { IfSome alone (λ told. PairOff ends.now.before.rows.items ends.now.before.places.items
+        ends.now.after.rows.items ends.now.after.places.items told.one.items told.other.items)
         → OnErr result (Began W.contents writer.old writer.new
         (less_lines 43 moment.index moment.due moment.len
         ends.now.after.rows.items ends.now.after.places.items ends.now.before.rows.items ends.now.before.places.items)) }
 {
-    gives_join::<W>();
-    let nowhere = ends.after.places.is_empty();
-    if nowhere {
-        return Ok(());
-    }
-    match Alone::of(alloc, &ends.before, &ends.after, ends.lag, moment.len) {
-        Ok(alone) => {
-            let turned = alone.turned();
-            put_less(
-                alloc,
-                b'+',
-                moment,
-                &ends.after,
-                &ends.before,
-                &turned,
-                writer,
-            )
-        }
-        Err(_) => {
-            let less = Less::untold();
-            put_told(
-                alloc,
-                b'+',
-                moment,
-                &ends.after,
-                &ends.before,
-                &less,
-                writer,
-            )
-        }
+    let turned = turned(alone);
+    put_less(
+        alloc,
+        b'+',
+        moment,
+        &ends.after,
+        &ends.before,
+        &turned,
+        writer,
+    )
+}
+
+/// Those of the other screen and the one, if it is told of them.
+fn turned(alone: Option<Alone>) -> Option<Alone>
+    ensures { (one other : List Row) (places others : List Place)
+        → IfSome alone (λ told. PairOff one places other others told.one.items told.other.items)
+        → IfSome result (λ told. PairOff other others one places told.one.items told.other.items) }
+{
+    match alone {
+        Some(alone) => Some(alone.turned()),
+        None => None,
     }
 }
 
-/// Writes the lines of what stands on one screen and is less on the other, by the places of both that stand alone. Mostly
-/// nothing is, which is seen at once.
+/// Writes the lines of what stands on one screen and is less on the other, by the places of both that stand alone, if it is
+/// told of those. Mostly nothing is, which is seen at once.
 fn put_less<W: Write>(
     alloc: Global,
     sign: u8,
     moment: Moment,
     one: &Standing,
     other: &Standing,
-    alone: &Alone,
+    alone: &Option<Alone>,
     writer: &mut Watched<W>,
 ) -> Result<(), OutOfMemory>
-    ensures gave { PairOff one.now.rows.items one.now.places.items other.now.rows.items other.now.places.items
-        alone.now.one.items alone.now.other.items
+    ensures gave { IfSome alone.now (λ told. PairOff one.now.rows.items one.now.places.items
+        other.now.rows.items other.now.places.items told.one.items told.other.items)
         → OnOk result (Gave W.contents writer.old writer.new
         (less_lines sign moment.index moment.due moment.len
         one.now.rows.items one.now.places.items other.now.rows.items other.now.places.items)) }
-    ensures front { PairOff one.now.rows.items one.now.places.items other.now.rows.items other.now.places.items
-        alone.now.one.items alone.now.other.items
+    ensures front { IfSome alone.now (λ told. PairOff one.now.rows.items one.now.places.items
+        other.now.rows.items other.now.places.items told.one.items told.other.items)
         → OnErr result (Began W.contents writer.old writer.new
         (less_lines sign moment.index moment.due moment.len
         one.now.rows.items one.now.places.items other.now.rows.items other.now.places.items)) }
 {
     gives_join::<W>();
+    if one.places.is_empty() {
+        return Ok(());
+    }
+    let Some(alone) = alone else {
+        return put_told(alloc, sign, moment, one, other, &Less::untold(), writer);
+    };
     let none_went = alone.keeps_all(one, other);
     if none_went {
         return Ok(());
@@ -276,8 +274,7 @@ fn put_if_less<W: Write>(
     Ok(())
 }
 
-/// Writes what went in a chunk and what came, by what stands at its ends, where nothing passes inside it. Where the text stands
-/// at both, the places that stand alone are looked for once.
+/// Writes what went in a chunk and what came, by what stands at its ends, where nothing passes inside it.
 pub(crate) fn put_ends<W: Write>(
     alloc: Global,
     moment: Moment,
@@ -291,57 +288,10 @@ pub(crate) fn put_ends<W: Write>(
         → OnErr result (Began W.contents writer.old writer.new (end_lines moment.index moment.due moment.len
         ends.now.before.rows.items ends.now.before.places.items ends.now.after.rows.items ends.now.after.places.items)) }
 {
-    if ends.before.places.is_empty() || ends.after.places.is_empty() {
-        return put_apart(alloc, moment, ends, writer);
-    }
-    match Alone::of(alloc, &ends.before, &ends.after, ends.lag, moment.len) {
-        Ok(alone) => put_both(alloc, moment, ends, alone, writer),
-        Err(_) => put_apart(alloc, moment, ends, writer),
-    }
-}
-
-/// The same, first what went, and then what came.
-fn put_apart<W: Write>(
-    alloc: Global,
-    moment: Moment,
-    ends: &Sides,
-    writer: &mut Watched<W>,
-) -> Result<(), OutOfMemory>
-    ensures gave { (text : List ℕ) (one other : List Row) → length text ≡ moment.len → AreBetween text one other ends.now
-        → OnOk result (Gave W.contents writer.old writer.new (end_lines moment.index moment.due moment.len
-        ends.now.before.rows.items ends.now.before.places.items ends.now.after.rows.items ends.now.after.places.items)) }
-    ensures front { (text : List ℕ) (one other : List Row) → length text ≡ moment.len → AreBetween text one other ends.now
-        → OnErr result (Began W.contents writer.old writer.new (end_lines moment.index moment.due moment.len
-        ends.now.before.rows.items ends.now.before.places.items ends.now.after.rows.items ends.now.after.places.items)) }
-{
     gives_join::<W>();
-    put_gone(alloc, moment, ends, writer)?;
-    put_come(alloc, moment, ends, writer)?;
-    Ok(())
-}
-
-/// The same by the places of both ends that stand alone.
-fn put_both<W: Write>(
-    alloc: Global,
-    moment: Moment,
-    ends: &Sides,
-    alone: Alone,
-    writer: &mut Watched<W>,
-) -> Result<(), OutOfMemory>
-    ensures gave { PairOff ends.now.before.rows.items ends.now.before.places.items
-        ends.now.after.rows.items ends.now.after.places.items alone.one.items alone.other.items
-        → OnOk result (Gave W.contents writer.old writer.new (end_lines moment.index moment.due moment.len
-        ends.now.before.rows.items ends.now.before.places.items ends.now.after.rows.items ends.now.after.places.items)) }
-    ensures front { PairOff ends.now.before.rows.items ends.now.before.places.items
-        ends.now.after.rows.items ends.now.after.places.items alone.one.items alone.other.items
-        → OnErr result (Began W.contents writer.old writer.new (end_lines moment.index moment.due moment.len
-        ends.now.before.rows.items ends.now.before.places.items ends.now.after.rows.items ends.now.after.places.items)) }
-{
-    gives_join::<W>();
-    let (before, after) = (&ends.before, &ends.after);
-    put_less(alloc, b'-', moment, before, after, &alone, writer)?;
-    let turned = alone.turned();
-    put_less(alloc, b'+', moment, after, before, &turned, writer)?;
+    let alone = alone_of(alloc, ends, moment.len);
+    put_gone(alloc, moment, ends, &alone, writer)?;
+    put_come(alloc, moment, ends, alone, writer)?;
     Ok(())
 }
 
@@ -485,21 +435,29 @@ fn put_if_passed<W: Write>(
 }
 
 /// Whether surely no line tells of what went between two screens, of which the one lags so behind the other and on which a
-/// text of so many characters stands, inside a chunk that begins with a third one, whatever its end is.
+/// text of so many characters stands, inside a chunk that begins with a third one, which lags so behind the one, whatever its
+/// end is.
 pub(crate) fn none_passes(
     first: &Standing,
+    since: Lag,
     one: &Standing,
     other: &Standing,
     lag: Lag,
     len: usize,
 ) -> bool
     ensures { result ≡ true → (text : List ℕ) (here there : List Row) → length text ≡ len
+        → first.now.places.items ≡ standing text first.now.rows.items
+        → Lags since first.now.rows.items one.now.rows.items
         → IsStill text here one.now → IsStill text there other.now → Lags lag one.now.rows.items other.now.rows.items
         → (index due len : ℕ) (last : List Row) (lasts : List Place)
         → passed_lines index due len first.now.rows.items first.now.places.items last lasts
         one.now.rows.items one.now.places.items other.now.rows.items other.now.places.items ≡ [] }
 {
     if lag.is_none() {
+        return true;
+    }
+    let untouched = is_untouched(since, lag, len);
+    if untouched {
         return true;
     }
     let alloc = *one.rows.allocator();
@@ -511,4 +469,32 @@ pub(crate) fn none_passes(
         return true;
     }
     !may_pass(first, one, other, &alone)
+}
+
+/// Whether each place at which a text of so many characters stands, and that goes where a screen lags so behind another one,
+/// is in a row that stayed since a third one, which lags so behind the one.
+fn is_untouched(since: Lag, lag: Lag, len: usize) -> bool
+    ensures { result ≡ true → (text : List ℕ) (first one other : List Row) → length text ≡ len
+        → Lags since first one → Lags lag one other
+        → (n : ℕ) → n < length (standing text one)
+        → may_pass first (standing text first) one (standing text one) other (standing text other) n ≡ false }
+{
+    if since.is_none() {
+        return true;
+    }
+    differ_apart(since, lag, len)
+}
+
+/// Whether a text has no more than one character, no rows moved, and those that may differ are others than those that may
+/// since.
+fn differ_apart(since: Lag, lag: Lag, len: usize) -> bool
+    ensures len { result ≡ true → len ≤ 1 }
+    ensures since { result ≡ true → since.moved ≡ 0 }
+    ensures lag { result ≡ true → lag.moved ≡ 0 }
+    ensures apart { result ≡ true → lag.span.from < since.span.to → lag.span.to ≤ since.span.from }
+{
+    len <= 1
+        && since.moved == 0
+        && lag.moved == 0
+        && (since.span.to <= lag.span.from || lag.span.to <= since.span.from)
 }

@@ -1,6 +1,6 @@
 //! What stands on a screen before some bytes and after them.
 
-ghost use Rattle.std.specs.Prelude.{◌≡◌, [], List, ℕ, IfOk, OnOk};
+ghost use Rattle.std.specs.Prelude.{◌≡◌, [], true, List, ℕ, IfOk, OnOk};
 ghost use Rattle.standings.specs.Rows.{Row};
 ghost use Rattle.standings.specs.Spans.{Stays};
 ghost use Rattle.text_find.specs.Lines.{AreBetween, AreStill, IsStill};
@@ -10,8 +10,8 @@ use plays::{OutOfMemory, Plays};
 use standings::{Lag, Span, Standing};
 use std::alloc::Global;
 
-/// What stands on a screen before some bytes and after them, and how the rows before lag. Where none were played the two
-/// are the same.
+/// What stands on a screen before some bytes and after them, and how the rows before lag. Where the text stands nowhere
+/// before, these may be older ones, on which it doesn't either.
 #[derive(Drop)]
 pub(crate) struct Sides {
     pub(crate) before: Standing,
@@ -82,6 +82,7 @@ pub(crate) fn catch_up<T: Plays, F: Finder<T>>(
 ) -> Result<Span, OutOfMemory>
     ensures others { IfOk result (λ span.
         Stays span sides.old.after.rows.items sides.new.after.rows.items) }
+    ensures before { sides.new.before ≡ sides.old.before }
     ensures sides { (profile : T.Profile) (first before after : List ℕ) → T.shows profile terminal.now after
         → T.told profile terminal.now before
         → AreBetween text.now (F.screens profile first) (F.screens profile before) sides.old
@@ -96,11 +97,22 @@ pub(crate) fn catch_up<T: Plays, F: Finder<T>>(
     Ok(span)
 }
 
-/// What stands before becomes what stands after.
+/// Whether the text stands neither before nor after.
+pub(crate) fn stands_nowhere(sides: &Sides) -> bool
+    ensures before { result ≡ true → sides.now.before.places.items ≡ [] }
+    ensures after { result ≡ true → sides.now.after.places.items ≡ [] }
+{
+    sides.before.places.is_empty() && sides.after.places.is_empty()
+}
+
+/// What stands before becomes what stands after. Where the text stands at neither, the rows before lag on.
 pub(crate) fn settle(sides: &mut Sides) -> Result<(), OutOfMemory>
     ensures { (text : List ℕ) (one other : List Row) → AreBetween text one other sides.old
         → OnOk result (AreStill text other sides.new) }
 {
+    if stands_nowhere(sides) {
+        return Ok(());
+    }
     let lag = sides.lag;
     if lag.is_none() {
         return Ok(());

@@ -3,8 +3,8 @@ use Rattle.std.specs.Vec.{vec_len}
 use Rattle.std.proofs.lemmas.Bool.{eqb-false}
 use Rattle.std.proofs.lemmas.List.{length-drop, take_rest}
 use Rattle.text_find.specs.Calm.{HasStood, NonePass}
-use Rattle.text_find.specs.Lines.{AreBetween, IsStill}
-use Rattle.text_find.proofs.CalmLemmas.{ahead_more, calm_more, stood_before, stood_none}
+use Rattle.text_find.specs.Lines.{AreBetween}
+use Rattle.text_find.proofs.CalmLemmas.{ahead_more, calm_more, stood_none}
 use Rattle.text_find.proofs.ahead.play_pieces.Goals as goal
 use Rattle.text_find.proofs.ahead.play_pieces.Goals.{then-stands, else-stands}
 
@@ -45,17 +45,15 @@ returns-then-not-calm-clause-stood g c = λ profile before h are trails.
     let screen = g.F.Finder.screens profile in
     let kept = c.loop-taken.invariant in
     let ends = c.loop-taken.ends in
-    let steps = c.loop-taken.steps in
     let not_calm = c.if-not-calm.true in
     elim c.if-stands.branch [
       | then-stands w ↦
           let there = kept.ahead profile before h are in
           let many : vec_len ends.after.places ≡ 0 → ⊥ = eqb-false (vec_len ends.after.places) 0 (sym c.is_empty-stands.ensures ∙ w.if-stands.true) in
           let stands : ends.after.places.items ≡ [] → ⊥ = λ none. many (omega (arith, ap length none)) in
-          let stood = stood_before text (screen (before ++ take at bytes)) ends steps stands there.between.after (kept.trails profile before h are trails) in
           subst (λ n. HasStood text screen before bytes n c.play_piece.new.steps.sides.before) (sym w.start-is) (record {
             calm = kept.calm profile before h are trails;
-            still = λ some. subst (λ sides. IsStill text (screen (before ++ take at bytes)) sides.before) (sym (c.in_ok-more.ensures.piece.stays not_calm)) stood;
+            still = λ some. c.in_ok-more.ensures.piece.stood profile before (before ++ take at bytes) there.played there.between (kept.trails profile before h are trails) not_calm stands;
           })
       | else-stands w ↦ subst (λ n. HasStood text screen before bytes n c.play_piece.new.steps.sides.before) (sym w.start-is) (stood_none text screen before bytes c.play_piece.new.steps.sides.before)
     ]
@@ -82,7 +80,7 @@ loop-taken-preserved g c =
           (subst (λ b. AreBetween text (screen before) (screen (so_far ++ take taken b)) ends) rest (c.in_ok-more.ensures.piece.between profile before so_far there.played there.between));
       trails = λ profile before h are trails.
           let there = kept.ahead profile before h are in
-          c.in_ok-more.ensures.piece.trails profile before (before ++ take at bytes) there.played there.between (kept.trails profile before h are trails) c.if-not-calm.false;
+          c.in_ok-more.ensures.piece.trails profile before (before ++ take at bytes) there.played there.between (kept.trails profile before h are trails);
       calm = λ profile before h are trails.
           let screen = g.F.Finder.screens profile in
           let so_far = before ++ take at bytes in

@@ -12,9 +12,9 @@ invariant-loop-taken g l = record {
   ahead : (profile : g.row.T-Profile.Denot) (before : List ℕ) → g.T.Plays.shows profile l.fn.ahead before → AreStill l.text (g.F.Finder.screens profile before) l.fn.ends
       → IsAhead g.T.Plays.shows g.F.Finder.screens profile l.text before l.bytes l.taken l.ahead l.ends;
   trails : (profile : g.row.T-Profile.Denot) (before : List ℕ) → g.T.Plays.shows profile l.fn.ahead before → AreStill l.text (g.F.Finder.screens profile before) l.fn.ends
-      → IsTrailing l.fn.ends l.fn.steps → IsTrailing l.ends l.steps;
+      → IsTrailing l.text l.fn.ends l.fn.steps → IsTrailing l.text l.ends l.steps;
   calm : (profile : g.row.T-Profile.Denot) (before : List ℕ) → g.T.Plays.shows profile l.fn.ahead before → AreStill l.text (g.F.Finder.screens profile before) l.fn.ends
-      → IsTrailing l.fn.ends l.fn.steps → IsCalm l.text (g.F.Finder.screens profile) before l.bytes l.taken;
+      → IsTrailing l.text l.fn.ends l.fn.steps → IsCalm l.text (g.F.Finder.screens profile) before l.bytes l.taken;
 }
 
 abbrev pub decreases-loop-taken : goal.decreases-loop-taken

@@ -1,10 +1,10 @@
-use Rattle.std.proofs.Common.{◌≡◌, ◌≤◌, [], ◌++◌, List, ℕ, ap, arith, inl, refl, subst, sym, true, ◌∙◌, take}
+use Rattle.std.proofs.Common.{◌≡◌, ◌≤◌, [], ◌++◌, List, ℕ, ap, arith, sym, true, ◌∙◌, take}
 use Rattle.std.specs.Vec.{vec_len}
 use Rattle.std.proofs.lemmas.Bool.{eqb-true, leb-true}
 use Rattle.std.proofs.lemmas.List.{nil_from_length}
 use Rattle.standings.proofs.SpanLemmas.{stays_none}
 use Rattle.standings.specs.Standing.{standing}
-use Rattle.text_find.specs.Lines.{AreBetween, IsLagging, IsStill}
+use Rattle.text_find.specs.Lines.{AreBetween, IsLagging}
 use Rattle.text_find.proofs.CalmLemmas.{lags_on, nowhere_calm, trails_on}
 use Rattle.text_find.proofs.ahead.play_where_none_stands.Goals as goal
 
@@ -32,15 +32,13 @@ returns-then-is_none-clause-piece g c =
       lags = lags_on c.args.ends.now ends c.args.steps.now rows;
       played = piece.shows;
       between = after;
-      trails = λ profile first before h are trails calm.
-          trails_on text (g.F.Finder.screens profile before) c.args.ends.now ends c.args.steps.now are.after
-          (subst (λ s. IsStill text s ends.after) (same profile first before h are) (after profile first before h are).after) trails;
+      trails = λ profile first before h are trails. trails_on text c.args.ends.now ends c.args.steps.now rows trails;
       calm = λ profile first before h are trails calm.
           let screen = g.F.Finder.screens profile in
           let nowhere : standing text (screen before) ≡ [] = sym are.after.places ∙ c.requires.none in
           nowhere_calm text (screen first) screen before bytes taken
           (piece.between profile before h nowhere (ap (standing text) (same profile first before h are) ∙ nowhere));
-      stays = λ no. refl;
+      stood = λ profile first before h are trails no stands. absurd (stands c.requires.none);
     }
 
 pub returns-clause-piece : goal.returns-clause-piece
@@ -65,10 +63,10 @@ returns-clause-piece g c =
       lags = more;
       played = piece.shows;
       between = after;
-      trails = λ profile first before h are trails calm. record { lags = more trails.lags; same = inl (empty calm) };
+      trails = λ profile first before h are trails. record { lags = more trails.lags; stood = trails.stood };
       calm = λ profile first before h are trails calm.
           let screen = g.F.Finder.screens profile in
           nowhere_calm text (screen first) screen before bytes taken
           (piece.between profile before h (sym are.after.places ∙ c.requires.none) (sym (after profile first before h are).after.places ∙ empty calm));
-      stays = λ no. refl;
+      stood = λ profile first before h are trails no stands. absurd (stands c.requires.none);
     }

@@ -1,22 +1,37 @@
-use Rattle.std.proofs.Common.{◌≡◌, [], arith, inl, sym, ◌∙◌}
-use Rattle.std.specs.Vec.{vec_len}
-use Rattle.std.proofs.lemmas.Bool.{eqb-true}
-use Rattle.std.proofs.lemmas.List.{nil_from_length}
+use Rattle.std.proofs.Common.{◌∙◌, ap, arith, sym}
 use Rattle.standings.specs.Spans.{Stays}
-use Rattle.text_find.proofs.CalmLemmas.{trails_there}
+use Rattle.standings.specs.Standing.{standing}
+use Rattle.text_find.proofs.CalmLemmas.{lags_there}
 use Rattle.text_find.proofs.behind.trail.Goals as goal
 
-pub returns-then-is_empty-clause-trails : goal.returns-then-is_empty-clause-trails
-returns-then-is_empty-clause-trails c = λ lags.
-    let places = c.args.ends.now.after.places in
-    let count : vec_len places ≡ 0 = eqb-true (vec_len places) 0 (sym c.is_empty.ensures ∙ c.if-is_empty.true) in
-    let empty : places.items ≡ [] = nil_from_length places.items (omega (arith, count)) in
-    record { lags = lags; same = inl empty }
+pub returns-then-is_none-clause-stood : goal.returns-then-is_none-clause-stood
+returns-then-is_none-clause-stood c = λ text screen is trails.
+    let same = c.is_none.ensures c.if-is_none.true _ _ trails.lags.before in
+    record {
+      rows = same ∙ is.rows;
+      places = trails.stood ∙ ap (standing text) (same ∙ is.rows);
+    }
 
-pub returns-clause-trails : goal.returns-clause-trails
-returns-clause-trails c = λ lags.
+pub returns-clause-lags : goal.returns-clause-lags
+returns-clause-lags c = λ lags.
     let steps = c.args.steps.now in
     let after = c.args.ends.now.after.rows.items in
     let apart : Stays c.apart-span.result after steps.sides.after.rows.items = c.apart-span.ensures _ _ _ (omega (arith, c.len.ensures)) lags.before lags.after in
-    trails_there c.args.ends.now steps c.follow_lag.new.self c.none-steps.result c.of-steps.result (c.in_ok-follow_lag.ensures.rows lags.before) c.in_ok-follow_lag.ensures.places
-    c.none-steps.ensures (c.of-steps.ensures _ _ apart)
+    lags_there c.args.ends.now steps c.follow_lag.new.self c.none-steps.result c.of-steps.result (c.in_ok-follow_lag.ensures.rows lags.before) c.none-steps.ensures (c.of-steps.ensures _ _ apart)
+
+pub returns-clause-trails : goal.returns-clause-trails
+returns-clause-trails c = λ text screen is trails.
+    let steps = c.args.steps.now in
+    let after = c.args.ends.now.after.rows.items in
+    let rows = c.in_ok-follow_lag.ensures.rows trails.lags.before in
+    let apart : Stays c.apart-span.result after steps.sides.after.rows.items = c.apart-span.ensures _ _ _ (omega (arith, c.len.ensures)) trails.lags.before trails.lags.after in
+    record {
+      lags = lags_there c.args.ends.now steps c.follow_lag.new.self c.none-steps.result c.of-steps.result rows c.none-steps.ensures (c.of-steps.ensures _ _ apart);
+      stood = c.in_ok-follow_lag.ensures.places ∙ is.places ∙ ap (standing text) (sym is.rows ∙ sym rows);
+    }
+
+pub returns-clause-stood : goal.returns-clause-stood
+returns-clause-stood c = λ text screen is trails. record {
+  rows = c.in_ok-follow_lag.ensures.rows trails.lags.before ∙ is.rows;
+  places = c.in_ok-follow_lag.ensures.places ∙ is.places;
+}

@@ -117,8 +117,8 @@ returns-in_err-put_chunk_behind-clause-front g c = λ profile found.
     let stood = subst (λ p. IfSome p (λ n. HasStood text screen here chunk n c.play_ahead.new.steps.sides.before)) c.in-Some.is (c.in-Ok.ensures.stood profile here found.played found.still found.trails) in
     let late = found_late g.T.Plays.shows g.F.Finder.screens profile chunks text index index c.args.ahead.now c.args.ends.now c.args.behind.now c.args.steps.now c.play_ahead.new.steps found (omega arith) c.play_ahead.ensures.count in
     let reached = stood_inside g.T.Plays.shows g.F.Finder.screens profile chunks text index start chunk c.reach.new.behind c.reach.new.steps bytes stood.calm (c.in_ok-reach.ensures.played profile late c.if-not-branch.false)
-    (c.in_ok-reach.ensures.steps text screen here (screen (first chunks (index + 1))) are lags (λ some. stood.still (omega (arith, some, length-take start chunk))) c.if-not-branch.false)
-    (c.in_ok-reach.ensures.count c.if-not-branch.false) (c.in_ok-reach.ensures.none c.if-not-branch.false) in
+    (c.in_ok-reach.ensures.steps profile (screen (first chunks (index + 1))) late are lags (λ some. stood.still (omega (arith, some, length-take start chunk))) c.if-not-branch.false)
+    (c.in_ok-reach.ensures.count c.if-not-branch.false) in
     let between = c.reach.ensures.ends text (screen here) (screen (first chunks (index + 1))) are in
     rw p.1 (c.in_err-put_chunk_behind.ensures.front profile reached between)
 
@@ -139,8 +139,8 @@ returns-clause-gave g c = λ profile found done.
     let stood = subst (λ p. IfSome p (λ n. HasStood text screen here chunk n c.play_ahead.new.steps.sides.before)) c.in-Some.is (c.in-Ok.ensures.stood profile here found.played found.still found.trails) in
     let late = found_late g.T.Plays.shows g.F.Finder.screens profile chunks text index index c.args.ahead.now c.args.ends.now c.args.behind.now c.args.steps.now c.play_ahead.new.steps found (omega arith) c.play_ahead.ensures.count in
     let reached = stood_inside g.T.Plays.shows g.F.Finder.screens profile chunks text index start chunk c.reach.new.behind c.reach.new.steps bytes stood.calm (c.in_ok-reach.ensures.played profile late c.if-not-branch.false)
-    (c.in_ok-reach.ensures.steps text screen here (screen (first chunks (index + 1))) are lags (λ some. stood.still (omega (arith, some, length-take start chunk))) c.if-not-branch.false)
-    (c.in_ok-reach.ensures.count c.if-not-branch.false) (c.in_ok-reach.ensures.none c.if-not-branch.false) in
+    (c.in_ok-reach.ensures.steps profile (screen (first chunks (index + 1))) late are lags (λ some. stood.still (omega (arith, some, length-take start chunk))) c.if-not-branch.false)
+    (c.in_ok-reach.ensures.count c.if-not-branch.false) in
     let between = c.reach.ensures.ends text (screen here) (screen (first chunks (index + 1))) are in
     c.in_ok-put_chunk_behind.ensures.gave profile reached between
 
@@ -161,8 +161,8 @@ returns-clause-found g c = λ profile found done.
     let stood = subst (λ p. IfSome p (λ n. HasStood text screen here chunk n c.play_ahead.new.steps.sides.before)) c.in-Some.is (c.in-Ok.ensures.stood profile here found.played found.still found.trails) in
     let late = found_late g.T.Plays.shows g.F.Finder.screens profile chunks text index index c.args.ahead.now c.args.ends.now c.args.behind.now c.args.steps.now c.play_ahead.new.steps found (omega arith) c.play_ahead.ensures.count in
     let reached = stood_inside g.T.Plays.shows g.F.Finder.screens profile chunks text index start chunk c.reach.new.behind c.reach.new.steps bytes stood.calm (c.in_ok-reach.ensures.played profile late c.if-not-branch.false)
-    (c.in_ok-reach.ensures.steps text screen here (screen (first chunks (index + 1))) are lags (λ some. stood.still (omega (arith, some, length-take start chunk))) c.if-not-branch.false)
-    (c.in_ok-reach.ensures.count c.if-not-branch.false) (c.in_ok-reach.ensures.none c.if-not-branch.false) in
+    (c.in_ok-reach.ensures.steps profile (screen (first chunks (index + 1))) late are lags (λ some. stood.still (omega (arith, some, length-take start chunk))) c.if-not-branch.false)
+    (c.in_ok-reach.ensures.count c.if-not-branch.false) in
     let between = c.reach.ensures.ends text (screen here) (screen (first chunks (index + 1))) are in
     found_reached g.T.Plays.shows g.F.Finder.screens profile chunks text (index + 1) c.play_ahead.new.ahead c.put_chunk_behind.new.ends c.put_chunk_behind.new.behind c.put_chunk_behind.new.steps
     (subst (g.T.Plays.shows profile c.play_ahead.new.ahead) next (c.in-Ok.ensures.shows profile here found.played found.still))

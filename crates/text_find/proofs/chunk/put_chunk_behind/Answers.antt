@@ -79,5 +79,5 @@ returns-clause-reached g c = λ profile there.
       still = subst (λ b. AreStill text (screen b) c.put_chunk.new.steps) next (c.in_ok-put_chunk.ensures.steps profile here (subst (λ b. g.T.Plays.shows profile c.args.behind.now (here ++ take start b)) (sym bytes) there.played)
           (subst (λ b. AreStill text (screen (here ++ take start b)) c.args.steps.now.sides) (sym bytes) there.still));
       count = refl;
-      none = there.none;
+      lag = refl;
     }

@@ -1,10 +1,10 @@
-use Rattle.std.proofs.Common.{refl, subst, sym}
+use Rattle.std.proofs.Common.{◌≡◌, ◌∙◌, List, [], ap, subst, sym}
 use Rattle.std.proofs.lemmas.Result.{err_from_is_err_and}
+use Rattle.standings.specs.declared.place.Place.{Place}
 use Rattle.tape_core.specs.Devices.{Gave}
-use Rattle.standings.specs.Standing.{standing}
-use Rattle.text_find.specs.Lines.{Began, IsStill}
+use Rattle.text_find.specs.Lines.{Began, passed_lines}
 use Rattle.text_find.proofs.BeganLemmas.{began_whole}
-use Rattle.text_find.proofs.LineLemmas.{nothing_passed, passed_by, same_screens}
+use Rattle.text_find.proofs.LineLemmas.{held_on, nothing_passed, passed_by, places_kept}
 use Rattle.text_find.proofs.each_byte.put_step.Goals as goal
 
 pub returns-then-is_none-clause-gave : goal.returns-then-is_none-clause-gave
@@ -12,17 +12,20 @@ returns-then-is_none-clause-gave g c = λ text one other len between.
     let m = c.args.moment in
     let ends = c.args.ends.now in
     let sides = c.args.steps.now in
-    let same = same_screens text one other sides.before sides.after between.before between.after (c.is_none.ensures c.if-is_none.true _ _ between.lag) in
+    let lines = λ (ps : List Place). passed_lines m.index m.due m.len ends.before.rows.items ends.before.places.items ends.after.rows.items ends.after.places.items
+    sides.before.rows.items sides.before.places.items sides.after.rows.items ps in
+    let none : lines sides.after.places.items ≡ [] = ap lines (places_kept text other sides.after between.after)
+    ∙ nothing_passed text m.index m.due m.len ends.before.rows.items ends.before.places.items ends.after.rows.items ends.after.places.items
+    sides.before.rows.items sides.before.places.items sides.after.rows.items (c.is_none.ensures c.if-is_none.true _ _ between.lag) between.before.stood in
     subst (λ t. Gave g.W.Write.contents c.args.writer.now c.args.writer.now t)
-    (sym (nothing_passed text m.index m.due m.len ends.before.rows.items ends.before.places.items ends.after.rows.items ends.after.places.items one (standing text one) other (sym same) refl))
+    (sym none ∙ passed_by text m.index m.due m.len ends.before.rows.items ends.before.places.items ends.after.rows.items ends.after.places.items one other sides.before sides.after between.before between.after)
     (c.gives_join.ensures.nothing c.args.writer.now)
 
 pub returns-then-is_none-clause-still : goal.returns-then-is_none-clause-still
 returns-then-is_none-clause-still g c = λ text one other between.
     let sides = c.args.steps.now in
-    let same = same_screens text one other sides.before sides.after between.before between.after (c.is_none.ensures c.if-is_none.true _ _ between.lag) in
     record {
-      before = subst (λ screen. IsStill text screen sides.before) (sym same) between.before;
+      before = held_on text other sides.before sides.after (c.is_none.ensures c.if-is_none.true _ _ between.lag) between.before.stood between.after;
       after = between.after;
       lag = between.lag;
     }

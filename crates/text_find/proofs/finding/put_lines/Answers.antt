@@ -23,11 +23,11 @@ returns-in_err-put_from-clause-front g c = λ profile h h'.
     let p = err_from_is_err_and c.from_residual-in_err-put_from.result c.from_residual-in_err-put_from.ensures.1 in
     let tape = c.args.recording.now in
     let text = c.args.text.now in
-    let still = c.in_ok-ends.ends.before in
+    let still = c.in_ok-ends.ends.after in
     let are = c.in_ok-ends.ensures profile (first tape.chunks c.args.start) h' in
-    let is = are.before in
+    let is = are.after in
     let found = found_both g.T.Plays.shows g.F.Finder.screens profile tape.chunks text c.args.start c.args.ahead c.in_ok-ends.ends c.args.behind.now c.in_ok-steps.steps h' are h
-    (c.in_ok-steps.ensures.sides profile (first tape.chunks c.args.start) h) c.in_ok-steps.ensures.none c.in_ok-steps.ensures.count in
+    (c.in_ok-steps.ensures.sides profile (first tape.chunks c.args.start) h) c.in_ok-steps.ensures.lag c.in_ok-steps.ensures.count in
     let high = c.max-end.ensures ∙ ap (λ n. max n c.args.start) c.due_count.ensures.count in
     let all = lines_in_two g.F.Finder.screens c.due_is_below_the_count.ensures profile tape c.args.from c.args.to text c.args.start c.max-end.result still.rows.items still.places.items
     c.requires.start high c.requires.within (omega (arith, c.due_count.ensures.count, c.due_count.ensures.within)) is.rows (places_kept text (g.F.Finder.screens profile (first tape.chunks c.args.start)) still is) in
@@ -39,11 +39,11 @@ returns-in_err-put_between-clause-front g c = λ profile h h'.
     let p = err_from_is_err_and c.from_residual-in_err-put_between.result c.from_residual-in_err-put_between.ensures.1 in
     let tape = c.args.recording.now in
     let text = c.args.text.now in
-    let still = c.in_ok-ends.ends.before in
+    let still = c.in_ok-ends.ends.after in
     let are = c.in_ok-ends.ensures profile (first tape.chunks c.args.start) h' in
-    let is = are.before in
+    let is = are.after in
     let found = found_both g.T.Plays.shows g.F.Finder.screens profile tape.chunks text c.args.start c.args.ahead c.in_ok-ends.ends c.args.behind.now c.in_ok-steps.steps h' are h
-    (c.in_ok-steps.ensures.sides profile (first tape.chunks c.args.start) h) c.in_ok-steps.ensures.none c.in_ok-steps.ensures.count in
+    (c.in_ok-steps.ensures.sides profile (first tape.chunks c.args.start) h) c.in_ok-steps.ensures.lag c.in_ok-steps.ensures.count in
     let high = c.max-end.ensures ∙ ap (λ n. max n c.args.start) c.due_count.ensures.count in
     let all = lines_in_two g.F.Finder.screens c.due_is_below_the_count.ensures profile tape c.args.from c.args.to text c.args.start c.max-end.result still.rows.items still.places.items
     c.requires.start high c.requires.within (omega (arith, c.due_count.ensures.count, c.due_count.ensures.within)) is.rows (places_kept text (g.F.Finder.screens profile (first tape.chunks c.args.start)) still is) in
@@ -54,11 +54,11 @@ pub returns-clause-gave : goal.returns-clause-gave
 returns-clause-gave g c = λ profile h h'.
     let tape = c.args.recording.now in
     let text = c.args.text.now in
-    let still = c.in_ok-ends.ends.before in
+    let still = c.in_ok-ends.ends.after in
     let are = c.in_ok-ends.ensures profile (first tape.chunks c.args.start) h' in
-    let is = are.before in
+    let is = are.after in
     let found = found_both g.T.Plays.shows g.F.Finder.screens profile tape.chunks text c.args.start c.args.ahead c.in_ok-ends.ends c.args.behind.now c.in_ok-steps.steps h' are h
-    (c.in_ok-steps.ensures.sides profile (first tape.chunks c.args.start) h) c.in_ok-steps.ensures.none c.in_ok-steps.ensures.count in
+    (c.in_ok-steps.ensures.sides profile (first tape.chunks c.args.start) h) c.in_ok-steps.ensures.lag c.in_ok-steps.ensures.count in
     let high = c.max-end.ensures ∙ ap (λ n. max n c.args.start) c.due_count.ensures.count in
     let all = lines_in_two g.F.Finder.screens c.due_is_below_the_count.ensures profile tape c.args.from c.args.to text c.args.start c.max-end.result still.rows.items still.places.items
     c.requires.start high c.requires.within (omega (arith, c.due_count.ensures.count, c.due_count.ensures.within)) is.rows (places_kept text (g.F.Finder.screens profile (first tape.chunks c.args.start)) still is) in

@@ -4,7 +4,7 @@ use Rattle.text_find.proofs.lines.put_passed.Goals as goal
 
 pub returns-in-Ok-clause-gave : goal.returns-in-Ok-clause-gave
 returns-in-Ok-clause-gave g c = λ text one other many are.
-    c.put_passed_alone.ensures.gave (c.in-Ok.ensures text many (are.before.places ∙ ap (standing text) (sym are.before.rows)) (are.after.places ∙ ap (standing text) (sym are.after.rows)) are.lag)
+    c.put_passed_alone.ensures.gave (c.in-Ok.ensures text many are.before.stood (are.after.places ∙ ap (standing text) (sym are.after.rows)) are.lag)
 
 pub returns-in-Err-clause-gave : goal.returns-in-Err-clause-gave
 returns-in-Err-clause-gave g c = λ text one other many are.
@@ -15,7 +15,7 @@ returns-in-Err-clause-gave g c = λ text one other many are.
 
 pub returns-in-Ok-clause-front : goal.returns-in-Ok-clause-front
 returns-in-Ok-clause-front g c = λ text one other many are.
-    c.put_passed_alone.ensures.front (c.in-Ok.ensures text many (are.before.places ∙ ap (standing text) (sym are.before.rows)) (are.after.places ∙ ap (standing text) (sym are.after.rows)) are.lag)
+    c.put_passed_alone.ensures.front (c.in-Ok.ensures text many are.before.stood (are.after.places ∙ ap (standing text) (sym are.after.rows)) are.lag)
 
 pub returns-in-Err-clause-front : goal.returns-in-Err-clause-front
 returns-in-Err-clause-front g c = λ text one other many are.
