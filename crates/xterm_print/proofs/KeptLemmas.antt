@@ -2,7 +2,7 @@
 use Rattle.std.proofs.Common.{◌≡◌, ◌≢◌, ℕ, zero, suc, ◌+◌, ◌-◌, ◌<◌, ◌≤◌, Bool, true, false, not, List, [], ◌∷◌, ◌++◌, length, get_or, set, filter, cond, refl, ap, sym, ◌∙◌, subst, arith, add-zero, add-one, append-nil, length-append, inl, inr, get_or-set_same, get_or-set_other}
 use Rattle.std.specs.Prelude.{◌&&◌}
 use Rattle.std.proofs.lemmas.Bool.{cases_eq}
-use Rattle.std.proofs.lemmas.List.{get_or_append_left, get_or_default}
+use Rattle.std.proofs.lemmas.List.{append_assoc, get_or_append_left, get_or_default}
 use Rattle.std.proofs.lemmas.List.Elements.{filter-append}
 use Rattle.std.proofs.Math.Seq.{get_or-append_seam}
 use Rattle.std.specs.Cmp.{IsEquivalence, and_equiv, on_equiv, nat_eq_equiv}
@@ -95,7 +95,7 @@ follow_none width rows others none = record { lines = ap length none; row = λ k
 
 -- ---- the lines that differ
 
-range_more : (a n : ℕ) → range_with_len a (n + 1) ≡ range_with_len a n ++ (a + n) ∷ []
+pub range_more : (a n : ℕ) → range_with_len a (n + 1) ≡ range_with_len a n ++ (a + n) ∷ []
 range_more a zero = ap (λ m. m ∷ []) (sym (add-zero a))
 range_more a (suc n) =
     let next : a + 1 + n ≡ a + suc n = omega arith in
@@ -113,6 +113,20 @@ passing_more p line here old new low is so_far more =
     ∙ ap (λ m. filter p (range_with_len 1 n) ++ filter p (m ∷ [])) next
     ∙ sym (filter-append p (range_with_len 1 n) ((1 + n) ∷ []))
     ∙ ap (filter p) (sym (range_more 1 n)) ∙ ap (λ m. filter p (range_with_len 1 m)) at
+
+-- the numbers so far that pass, and so many more, which all do
+pub passing_all : (p : ℕ → Bool) (line n : ℕ) (old new : List ℕ) → 1 ≤ line → ((k : ℕ) → line ≤ k → k < line + n → p k ≡ true)
+    → old ≡ filter p (range_with_len 1 (line - 1)) → new ≡ old ++ range_with_len line n → new ≡ filter p (range_with_len 1 (line + n - 1))
+passing_all p line zero old new low each so_far more =
+    let here : line + 0 - 1 ≡ line - 1 = omega arith in
+    more ∙ append-nil old ∙ so_far ∙ ap (λ m. filter p (range_with_len 1 m)) (sym here)
+passing_all p line (suc n) old new low each so_far more =
+    let next : suc n ≡ n + 1 = omega arith in
+    let last : line + n + 1 - 1 ≡ line + suc n - 1 = omega arith in
+    passing_more p (line + n) true (old ++ range_with_len line n) new (omega (arith, low)) (sym (each (line + n) (omega arith) (omega arith)))
+    (passing_all p line n old (old ++ range_with_len line n) low (λ k from below. each k from (omega (arith, below))) so_far refl)
+    (more ∙ ap (λ m. old ++ range_with_len line m) next ∙ ap (λ l. old ++ l) (range_more line n) ∙ sym (append_assoc old (range_with_len line n) ((line + n) ∷ [])))
+    ∙ ap (λ m. filter p (range_with_len 1 m)) last
 
 -- none of the next so many passes
 pub passing_none : (p : ℕ → Bool) (n more : ℕ) → ((k : ℕ) → n < k → k ≤ n + more → p k ≡ false) → filter p (range_with_len 1 (n + more)) ≡ filter p (range_with_len 1 n)

@@ -9,6 +9,7 @@ mod OverLemmas
 mod PlaceLemmas
 mod StylingLemmas
 mod PutLemmas
+mod MarkLemmas
 mod RunLemmas
 mod PieceLemmas
 mod ErasedLemmas

@@ -1,10 +1,16 @@
 -- Characters with sequences between them that select renditions, byte by byte.
-use Rattle.std.proofs.Common.{◌≡◌, ℕ, ◌+◌, ◌<◌, ◌≤◌, List, [], ◌∷◌, ◌++◌, append_assoc, drop, get_or, length, take, refl, ap, sym, ◌∙◌, arith}
+use Rattle.std.proofs.Common.{◌≡◌, ℕ, suc, true, ap₂, ◌+◌, ◌<◌, ◌≤◌, List, [], ◌∷◌, ◌++◌, append_assoc, drop, get_or, length, take, refl, ap, sym, ◌∙◌, arith}
 use Rattle.std.specs.Prelude.{Option, None, Some}
 use Rattle.std.specs.Option.{option_and_then, option_map_or}
 use Rattle.std.proofs.Math.Seq.{take-add}
-use Rattle.std.proofs.lemmas.List.{append-nil, length-append, take-append-drop, take-take, take_more}
+use Rattle.std.proofs.lemmas.List.{append-nil, get_or-take, length-append, length-take-le, take-append-drop, take-take, take_more}
+use Rattle.characters.specs.Law.{AsciiIsNarrow}
+use Rattle.vt_parser.specs.Syntax.{is_graphic}
+use Rattle.xterm_term.specs.Sets.{character_of}
 use Rattle.xterm_term.specs.declared.sets.CharacterSet.{CharacterSet}
+use Rattle.xterm_term.specs.declared.sets.CharacterSet.TheVariants.{Ascii}
+use Rattle.xterm_term.proofs.LettersAt.{IsLetter, graphic_letter}
+use Rattle.xterm_term.proofs.Runs.{ascii_is_narrow}
 use Rattle.xterm_term.specs.Ahead.{Begun, Escape, Letters, Parameters, Styling, letter_of, letters_from, styling_after, styling_behind}
 
 none_led : {styling : Styling} → None ≡ Some styling → ⊥
@@ -59,6 +65,26 @@ module _ (set : CharacterSet) (bytes : List ℕ) (n more : ℕ) (front : styling
   letters_more letters letters' are joins =
       joins ∙ ap (λ l. l ++ letters_from set Letters (take more (drop n bytes))) are
       ∙ sym (ap (letters_from set Letters) (take-add n more bytes) ∙ letters_append set Letters Letters (take n bytes) (take more (drop n bytes)) front)
+
+-- graphic characters of ASCII are letters as they are
+pub graphics_are : AsciiIsNarrow → (bytes : List ℕ) → ((k : ℕ) → k < length bytes → is_graphic (get_or bytes k 0) ≡ true)
+    → (styling_behind Ascii Letters bytes ≡ Some Letters) × (letters_from Ascii Letters bytes ≡ bytes)
+unfolding character_of
+graphics_are narrow [] graphic = (refl, refl)
+graphics_are narrow (byte ∷ rest) graphic =
+    let is : is_graphic byte ≡ true = graphic 0 (omega arith) in
+    let one : IsLetter Ascii Letters (byte ∷ []) byte = graphic_letter Ascii byte is (ascii_is_narrow narrow byte is) in
+    let others = graphics_are narrow rest (λ k lt. graphic (suc k) (omega (arith, lt))) in (
+      styling_append Ascii Letters Letters (byte ∷ []) rest one.styled ∙ others.0,
+      letters_append Ascii Letters Letters (byte ∷ []) rest one.styled ∙ ap₂ (λ l r. l ++ r) one.letters others.1,
+    )
+
+pub graphics_front : AsciiIsNarrow → (bytes : List ℕ) (n : ℕ) → n ≤ length bytes → ((k : ℕ) → k < n → is_graphic (get_or bytes k 0) ≡ true)
+    → (styling_behind Ascii Letters (take n bytes) ≡ Some Letters) × (letters_from Ascii Letters (take n bytes) ≡ take n bytes)
+graphics_front narrow bytes n within graphic =
+    graphics_are narrow (take n bytes) (λ k lt.
+    let low : k < n = omega (arith, lt, length-take-le n bytes within) in
+    ap is_graphic (get_or-take n bytes k 0 low) ∙ graphic k low)
 
 -- a byte is at most one letter
 one_letter : (set : CharacterSet) (from next : Styling) (byte : ℕ) → length (letter_of set from next byte) ≤ 1

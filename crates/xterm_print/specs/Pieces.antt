@@ -1,5 +1,6 @@
 -- Private: how much of a chunk is played before a text is looked for again.
-use Rattle.std.specs.Prelude.{◌≡◌, ◌⊎◌, Bool, true, false, ℕ, ◌+◌, ◌-◌, ◌%◌, ◌<◌, ◌≤◌, List, [], drop, length, slice_index_or, take}
+use Rattle.std.specs.Int.{bit_at}
+use Rattle.std.specs.Prelude.{◌≡◌, ◌⊎◌, true, ℕ, ◌+◌, ◌*◌, ◌-◌, ◌%◌, ◌<◌, ◌≤◌, List, [], drop, length, slice_index_or, take}
 use Rattle.std.specs.List.{flat_map}
 use Rattle.sheet.specs.declared.cell.Kind.TheVariants.{Narrow}
 use Rattle.sheet.specs.declared.rendition.Colour.TheVariants.{Default}
@@ -23,9 +24,11 @@ pub record IsPlain (cell : Cell) : Type 0 where
 abbrev pub AreApart : List ℕ → ℕ → ℕ → Type 0
 AreApart text one other = (k : ℕ) → k + 1 < length text → slice_index_or text k 0 ≡ one → slice_index_or text (k + 1) 0 ≡ other → ⊥
 
--- each character that a text has behind its first one is marked, by what is left of its number modulo 64
-abbrev pub AreFollowers : List ℕ → List Bool → Type 0
-AreFollowers text followers = (k : ℕ) → k + 1 < length text → slice_index_or followers (slice_index_or text (k + 1) 0 % 64) false ≡ true
+-- each character that a text has behind its first one is marked, and each pair of neighbours, by what is left of a number modulo 64
+abbrev pub AreFollowers : List ℕ → ℕ → ℕ → Type 0
+AreFollowers text marks pairs =
+    (k : ℕ) → k + 1 < length text
+    → (bit_at marks (slice_index_or text (k + 1) 0 % 64) ≡ 1) × (bit_at pairs ((slice_index_or text k 0 + 2 * slice_index_or text (k + 1) 0) % 64) ≡ 1)
 
 -- letters that may be put over the first cells: these are plain, and no neighbours of the text come to be the last one put and the next cell left
 pub record GoOver (text : List ℕ) (cells : List Cell) (letters : List ℕ) : Type 0 where

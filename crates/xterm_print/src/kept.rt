@@ -9,7 +9,7 @@ ghost use Rattle.xterm_print.specs.ChangeLines.{changed_lines, is_changed, same_
 ghost use Rattle.xterm_print.specs.Kept.{AreApart, FollowAll, FollowLines, Follows};
 ghost use Rattle.xterm_print.specs.Same.{Agree};
 
-use crate::moved::{Apart, catch_up_moved, moved_up};
+use crate::moved::{Apart, catch_up_moved, moved_up, some_differs};
 use crate::same::{TOGETHER, place_from, same_cell, same_up_to};
 use arrayvec::ArrayVec;
 use sheet::Cell;
@@ -86,7 +86,9 @@ impl KeptRow {
         self.place_apart(cells, used).is_none()
     }
 
-    /// A place up to which its cells are the same as these, behind so many of which all are blank, if some differ.
+    /// A place up to which its cells are the same as these, behind so many of which all are blank, if some differ. Mostly
+    /// they differ still where they were seen to.
+    #[inline(always)]
     fn place_apart(&self, cells: &[Cell], used: usize) -> Option<usize>
         requires { IsUsed cells.now used }
         ensures same { is_none result ≡ same_row self.now cells.now }
@@ -100,6 +102,19 @@ impl KeptRow {
         if self.differs_still(cells) {
             return Some(0);
         }
+        self.place_compared(cells, used)
+    }
+
+    /// The same by a look at the cells, of which it has as many.
+    #[inline(never)]
+    fn place_compared(&self, cells: &[Cell], used: usize) -> Option<usize>
+        requires used { IsUsed cells.now used }
+        requires long { length self.now ≡ length cells.now }
+        ensures same { is_none result ≡ same_row self.now cells.now }
+        ensures equal { is_none result ≡ true → self.now ≡ cells.now }
+        ensures agree { IfSome result (λ at. Agree self.now cells.now 0 at) }
+        ensures within { IfSome result (λ at. at ≤ length cells.now) }
+    {
         let end = end_of(self.used.max(used), cells.len());
         let at = same_up_to(self.cells.as_slice(), cells, end);
         if at == end {
@@ -124,6 +139,18 @@ impl KeptRow {
             return false;
         }
         !same_cell(self.cells[at], cells[at])
+    }
+
+    /// Becomes the same as these cells, behind so many of which all are blank.
+    pub(crate) fn become_same(&mut self, cells: &[Cell], used: usize)
+        requires { IsUsed cells.now used }
+        ensures { length self.old ≡ length cells.now → Follows (length cells.now) self.new cells.now }
+    {
+        if self.cells.len() == cells.len() {
+            let end = self.used.max(used);
+            copy_between(self.cells.as_mut_slice(), cells, 0, end);
+            self.used = used;
+        }
     }
 
     /// Becomes the same as these cells, behind so many of which all are blank, and tells whether it wasn't.
@@ -219,8 +246,8 @@ pub fn catch_up(
     }
 }
 
-/// The row of a line that was touched follows the one that is shown, and where it moved up, behind a line that differs,
-/// so do those that moved with it; adds the lines that differ, and tells where they end.
+/// The row of a line that was touched follows the one that is shown, and where it moved up, and some row differs, so do
+/// those that moved with it; adds the lines that differ, and tells where they end.
 fn catch_up_from(
     rows: &mut [KeptRow],
     screen: &Screen,
@@ -251,7 +278,7 @@ fn catch_up_from(
 {
     let _cursor = screen.cursor();
     let shift = moved_up(screen, line);
-    if shift > 0 && !changed.is_empty() {
+    if shift > 0 && some_differs(rows, screen, line, changed) {
         return catch_up_moved(rows, screen, line, shift, apart, changed);
     }
     apart.forget(line);

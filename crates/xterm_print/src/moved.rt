@@ -1,6 +1,6 @@
 //! Rows that are kept of a sheet whose own rows moved up.
 
-ghost use Rattle.std.specs.Prelude.{◌≡◌, ◌≢◌, ◌+◌, ◌-◌, ◌<◌, ◌≤◌, ℕ, Bool, List, false, filter, length, not, true};
+ghost use Rattle.std.specs.Prelude.{◌≡◌, ◌≢◌, ◌+◌, ◌-◌, ◌<◌, ◌≤◌, ◌++◌, ℕ, Bool, List, false, filter, length, not, true};
 ghost use Rattle.std.specs.List.{range_with_len};
 ghost use Rattle.sheet.specs.Cells.{Cell};
 ghost use Rattle.sheet.specs.Grid.{origin_of, row_at};
@@ -11,6 +11,12 @@ ghost use Rattle.xterm_print.specs.Kept.{AreApart, FollowLines, Follows};
 use crate::kept::{KeptRow, ROWS, seen_apart};
 use arrayvec::ArrayVec;
 use xterm_screen::Screen;
+
+/// How many lines are asked, or added, at a time.
+const BLOCK: u16 = 16;
+
+/// The same as a length.
+const BLOCK_LINES: usize = BLOCK as usize;
 
 /// Lines that follow each other, of which two rows so many lines apart are known to differ. As rows move up by as many
 /// lines, what is known moves with them.
@@ -103,11 +109,47 @@ fn moved_end(screen: &Screen, line: u16, shift: u16) -> u16
     ensures moved { (k : ℕ) → line ≤ k → k < result → origin_of screen.now.origins k ≡ k + shift }
 {
     let last = screen.lines() - shift;
-    let mut end = line + 1;
+    let mut end = past_moved(screen, line, shift);
     while end <= last && screen.origin(end) == end + shift {
         end += 1;
     }
     end
+}
+
+/// The same by whole blocks: all lines before it are such.
+#[inline(always)]
+fn past_moved(screen: &Screen, line: u16, shift: u16) -> u16
+    requires low { 1 ≤ line }
+    requires high { line + shift ≤ screen.now.picture.lines }
+    requires some { 0 < shift }
+    requires origin { origin_of screen.now.origins line ≡ line + shift }
+    ensures some { line < result }
+    ensures within { result + shift ≤ screen.now.picture.lines + 1 }
+    ensures moved { (k : ℕ) → line ≤ k → k < result → origin_of screen.now.origins k ≡ k + shift }
+{
+    let behind = screen.lines() - shift + 1;
+    let mut end = line + 1;
+    while behind - end >= BLOCK && have_moved(screen, end, shift) {
+        end += BLOCK;
+    }
+    end
+}
+
+/// Whether the rows of a block of lines, from one on, moved up by so many lines. It asks all of them with no way out, since
+/// that is done many at a time.
+#[inline(always)]
+fn have_moved(screen: &Screen, from: u16, shift: u16) -> bool
+    requires low { 1 ≤ from }
+    requires high { from + BLOCK + shift ≤ screen.now.picture.lines + 1 }
+    ensures { result ≡ true → (k : ℕ) → from ≤ k → k < from + BLOCK
+        → origin_of screen.now.origins k ≡ k + shift }
+{
+    let _lines = screen.lines();
+    let mut stayed = false;
+    for i in 0..BLOCK {
+        stayed |= screen.origin(from + i) != from + i + shift;
+    }
+    !stayed
 }
 
 /// Adds those of some lines whose rows differ from the ones so many lines further down, and tells a line from which on all
@@ -152,13 +194,63 @@ fn push_all(from: u16, to: u16, changed: &mut ArrayVec<u16, ROWS>)
         → changed.old.items ≡ filter p (range_with_len 1 (from - 1))
         → changed.new.items ≡ filter p (range_with_len 1 (to - 1)) }
 {
-    for line in from..to {
+    let start = push_blocks(from, to, changed);
+    for line in start..to {
         changed.push(line);
     }
 }
 
+/// Adds lines from one on, none from another on, by whole blocks, and tells where they end.
+#[inline(always)]
+fn push_blocks(from: u16, to: u16, changed: &mut ArrayVec<u16, ROWS>) -> u16
+    requires low { 1 ≤ from }
+    requires apart { from ≤ to }
+    requires high { to ≤ ROWS + 1 }
+    requires few { length changed.old.items + 1 ≤ from }
+    ensures low { from ≤ result }
+    ensures high { result ≤ to }
+    ensures few { length changed.new.items + 1 ≤ result }
+    ensures changed { (p : ℕ → Bool) → ((k : ℕ) → from ≤ k → k < result → p k ≡ true)
+        → changed.old.items ≡ filter p (range_with_len 1 (from - 1))
+        → changed.new.items ≡ filter p (range_with_len 1 (result - 1)) }
+{
+    let mut line = from;
+    while to - line >= BLOCK {
+        push_block(line, changed);
+        line += BLOCK;
+    }
+    line
+}
+
+/// Adds the lines of a block, from one on.
+#[inline(always)]
+fn push_block(from: u16, changed: &mut ArrayVec<u16, ROWS>)
+    requires high { from + BLOCK ≤ ROWS + 1 }
+    requires few { length changed.old.items + 1 ≤ from }
+    ensures items { changed.new.items ≡ changed.old.items ++ range_with_len from BLOCK }
+    ensures len { length changed.new.items ≡ length changed.old.items + BLOCK }
+{
+    let lines = block_from(from);
+    let _fits = changed.try_extend_from_slice(&lines);
+}
+
+/// The lines of a block, from one on.
+#[inline(always)]
+fn block_from(from: u16) -> [u16; BLOCK_LINES]
+    requires { from + BLOCK ≤ ROWS + 1 }
+    ensures lines { result ≡ range_with_len from BLOCK }
+    ensures len { length result ≡ BLOCK }
+{
+    let mut lines = [0; BLOCK_LINES];
+    for i in 0..BLOCK {
+        lines[i as usize] = from + i;
+    }
+    lines
+}
+
 /// Adds those of some lines whose rows differ from the ones so many lines further down, by a look at each, and tells a line
 /// from which on all do. Of those before them it is known that all do from the first on.
+#[inline(always)]
 fn push_compared(
     rows: &mut [KeptRow],
     from: u16,
@@ -210,6 +302,37 @@ fn differ(rows: &mut [KeptRow], place: usize, other: usize) -> bool
     true
 }
 
+/// Whether some row is known to differ from the one that is shown: one of a line that was added, or that of this line.
+pub(crate) fn some_differs(
+    rows: &[KeptRow],
+    screen: &Screen,
+    line: u16,
+    changed: &ArrayVec<u16, ROWS>,
+) -> bool
+    requires rows { length rows.now ≡ screen.now.picture.lines }
+    requires low { 1 ≤ line }
+    requires high { line ≤ screen.now.picture.lines }
+    ensures { result ≡ true → (before : List (List Cell))
+        → Follows screen.now.picture.columns (row_at rows.now line) (row_at before line)
+        → changed.now.items ≡ filter (is_changed before screen.now.picture.rows) (range_with_len 1 (line - 1))
+        → screen.now.picture.rows ≢ before }
+{
+    if !changed.is_empty() {
+        return true;
+    }
+    is_renewed(rows, screen, line)
+}
+
+/// Whether the row of a line differs from the one that is shown.
+fn is_renewed(rows: &[KeptRow], screen: &Screen, line: u16) -> bool
+    requires rows { length rows.now ≡ screen.now.picture.lines }
+    requires low { 1 ≤ line }
+    requires high { line ≤ screen.now.picture.lines }
+    ensures { result ≡ not (same_row (row_at rows.now line) (row_at screen.now.picture.rows line)) }
+{
+    !rows[line as usize - 1].is_same(screen.row(line), screen.used(line))
+}
+
 /// Adds those of some lines whose rows differ from the ones that are shown.
 fn push_renewed(
     rows: &[KeptRow],
@@ -231,8 +354,7 @@ fn push_renewed(
 {
     let _cursor = screen.cursor();
     for line in from..to {
-        let kept = &rows[line as usize - 1];
-        if !kept.is_same(screen.row(line), screen.used(line)) {
+        if is_renewed(rows, screen, line) {
             changed.push(line);
         }
     }
@@ -270,12 +392,12 @@ fn catch_up_lines(rows: &mut [KeptRow], screen: &Screen, from: u16, to: u16)
     let _cursor = screen.cursor();
     for line in from..to {
         let row = &mut rows[line as usize - 1];
-        row.catch_up(screen.row(line), screen.used(line));
+        row.become_same(screen.row(line), screen.used(line));
     }
 }
 
 /// The lines from one on whose rows moved up by so many lines, and as many lines behind them, follow those that are
-/// shown then; adds those that differ, and tells where they end. Some line differs, so that the marks tell what moved.
+/// shown then; adds those that differ, and tells where they end. Some row differs, so that the marks tell what moved.
 pub(crate) fn catch_up_moved(
     rows: &mut [KeptRow],
     screen: &Screen,
@@ -291,7 +413,10 @@ pub(crate) fn catch_up_moved(
     requires some { 0 < shift }
     requires origin { origin_of screen.now.origins line ≡ line + shift }
     requires few { length changed.old.items + 1 ≤ line }
-    requires differ { 0 < length changed.old.items }
+    requires differ { (before : List (List Cell))
+        → Follows screen.now.picture.columns (row_at rows.old line) (row_at before line)
+        → changed.old.items ≡ filter (is_changed before screen.now.picture.rows) (range_with_len 1 (line - 1))
+        → screen.now.picture.rows ≢ before }
     ensures low { line < result }
     ensures high { result ≤ screen.now.picture.lines + 1 }
     ensures known { AreApart apart.new rows.new }

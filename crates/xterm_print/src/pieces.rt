@@ -214,10 +214,11 @@ pub(crate) fn foretold(
         → IfSome result (λ foretold. IsForetold text.now (rows_after x) [] bytes.now foretold letters.new.items) }
 {
     match bytes {
-        [10..=12, ..] | [ESC, b'M', ..] | [ESC, b'[', b'L' | b'M', ..] => moved(terminal, bytes),
         [ESC, b'[', b'0' | b'K', ..] => {
             Some(Foretold::Writes(erased(terminal, text, still, bytes, letters)?))
         }
+        [ESC, b'M', ..] | [ESC, b'[', b'L' | b'M', ..] | [10..=12, ..] => moved(terminal, bytes),
+        [ESC, ..] => None,
         _ if may_be_letter(bytes) => lettered(terminal, text, still, bytes, letters),
         _ => None,
     }
@@ -253,15 +254,17 @@ fn is_quiet(terminal: &Terminal, text: &[char], still: &Standing) -> bool
     ends_left(terminal, text.len(), still)
 }
 
-/// The set in use, where the first of the bytes are a character that may be put.
+/// The set in use, where the first of the bytes may be a character that is put: those of several bytes are looked at, since
+/// not all of them are whole and take one column.
+#[inline]
 fn set_written(terminal: &Terminal, bytes: &[u8]) -> Option<CharacterSet>
+    requires { 0 < length bytes.now }
     ensures { IfSome result (λ set. (x : Term) → Shows terminal.now x → WritesStyled set x) }
 {
-    if bytes.is_empty() {
-        return None;
-    }
     let set = terminal.writes_in()?;
-    let _first = letter_at(set, bytes)?;
+    if bytes[0] >= 0x80 {
+        let _first = letter_at(set, bytes)?;
+    }
     Some(set)
 }
 

@@ -1,11 +1,12 @@
 //! Bytes that write characters of one column over plain cells, with sequences between them that select renditions.
 
-ghost use Rattle.std.specs.Prelude.{◌≡◌, ◌+◌, ◌-◌, ◌%◌, ◌<◌, ◌≤◌, ◌++◌, ◌∷◌, [], IfSome, List, ℕ, Some, drop, length, slice_index_or, take, true, false};
+ghost use Rattle.std.specs.Int.{bit_at};
+ghost use Rattle.std.specs.Prelude.{◌≡◌, ◌+◌, ◌*◌, ◌-◌, ◌%◌, ◌<◌, ◌≤◌, ◌++◌, ◌∷◌, List, ℕ, Some, length, slice_index_or, take, true, false};
+ghost use Rattle.vt_parser.specs.Syntax.{is_graphic};
 ghost use Rattle.xterm_rows.specs.Runs.{cell_behind};
 ghost use Rattle.xterm_term.specs.Ahead.{Letters, WritesStyled, letters_from, styling_behind};
 ghost use Rattle.xterm_term.specs.Seen.{Shows};
 ghost use Rattle.xterm_term.specs.Term.{Term};
-ghost use Rattle.xterm_term.specs.declared.sets.CharacterSet.TheVariants.{Ascii};
 ghost use Rattle.xterm_print.specs.Pieces.{AreApart, AreFollowers, EndsLeft, GoOver, IsPlain, StaysOn, WritesOver};
 
 use characters::laws::widths_are_small;
@@ -13,18 +14,19 @@ use sheet::Cell;
 use text_find::{LETTERS, LetterRun};
 use xterm_term::{CharacterSet, Terminal, letter_at, styling_at};
 
-/// How many marks there are for the characters of a text.
-const MARKS: usize = 64;
+/// How many marks there are.
+const MARKS: u32 = 64;
 
 /// How many pairs of neighbours are looked at at once.
 const TOGETHER: usize = 8;
 
-/// Marks of the characters that a text has behind its first one: most characters of a row have none. They are made for a
-/// third letter, since that takes a walk through the text.
+/// Marks of the characters that a text has behind its first one, and of its pairs of neighbours: most characters of a row
+/// have none, and most pairs of the others. They are made for a second letter, since that takes a walk through the text.
 #[derive(Drop)]
 struct Followers {
     made: bool,
-    marks: [bool; MARKS],
+    marks: u64,
+    pairs: u64,
 }
 
 /// How many of the bytes write letters over plain cells of the cursor's row, left of its last two, so that no two
@@ -72,7 +74,8 @@ fn run_on(
     letters.clear();
     let mut followers = Followers {
         made: false,
-        marks: [false; MARKS],
+        marks: 0,
+        pairs: 0,
     };
     let mut taken = 0;
     while taken < bytes.len() {
@@ -98,14 +101,14 @@ fn step(
 ) -> usize
     requires some { 0 < length bytes.now }
     requires few { length cells.now ≤ LETTERS }
-    requires made { followers.old.made ≡ true → AreFollowers text.now followers.old.marks }
+    requires made { followers.old.made ≡ true → AreFollowers text.now followers.old.marks followers.old.pairs }
     requires over { GoOver text.now cells.now letters.old.items }
     ensures over { GoOver text.now cells.now letters.new.items }
     ensures within { result ≤ length bytes.now }
     ensures styled { styling_behind set Letters (take result bytes.now) ≡ Some Letters }
     ensures more { letters.new.items
         ≡ letters.old.items ++ letters_from set Letters (take result bytes.now) }
-    ensures made { followers.new.made ≡ true → AreFollowers text.now followers.new.marks }
+    ensures made { followers.new.made ≡ true → AreFollowers text.now followers.new.marks followers.new.pairs }
 {
     let graphic = graphics_on(letters, set, cells, text, followers, bytes);
     if graphic > 0 {
@@ -125,7 +128,7 @@ fn step(
     letter.taken
 }
 
-/// Goes on over graphic characters of ASCII alone, behind the second letter: most come so. Says how many bytes that took.
+/// Goes on over graphic characters of ASCII alone, behind a first letter: most come so. Says how many bytes that took.
 #[inline]
 fn graphics_on(
     letters: &mut LetterRun,
@@ -135,70 +138,91 @@ fn graphics_on(
     followers: &mut Followers,
     bytes: &[u8],
 ) -> usize
+    requires some { 0 < length bytes.now }
     requires few { length cells.now ≤ LETTERS }
-    requires made { followers.old.made ≡ true → AreFollowers text.now followers.old.marks }
+    requires made { followers.old.made ≡ true → AreFollowers text.now followers.old.marks followers.old.pairs }
     requires over { GoOver text.now cells.now letters.old.items }
     ensures over { GoOver text.now cells.now letters.new.items }
     ensures within { result ≤ length bytes.now }
     ensures styled { styling_behind set Letters (take result bytes.now) ≡ Some Letters }
     ensures more { letters.new.items
         ≡ letters.old.items ++ letters_from set Letters (take result bytes.now) }
-    ensures made { followers.new.made ≡ true → AreFollowers text.now followers.new.marks }
+    ensures made { followers.new.made ≡ true → AreFollowers text.now followers.new.marks followers.new.pairs }
 {
-    if letters.len() < 2 || !matches!(set, CharacterSet::Ascii) {
+    let CharacterSet::Ascii = set else {
+        return 0;
+    };
+    let from = letters.len();
+    if from == 0 || !is_graphic(bytes[0]) {
         return 0;
     }
-    followers.make(text);
-    let mut taken = 0;
-    while let Some(character) = graphic_at(bytes, taken) {
-        if !may_follow(cells, followers, letters.len()) {
-            return taken;
-        }
-        letters.push(character);
-        taken += 1;
-    }
-    taken
-}
-
-/// The graphic character of ASCII at a place of the bytes, if there is one there. It takes one column.
-#[inline(always)]
-fn graphic_at(bytes: &[u8], at: usize) -> Option<char>
-    ensures within { IfSome result (λ _. at < length bytes.now) }
-    ensures styled { IfSome result (λ _. styling_behind Ascii Letters (take 1 (drop at bytes.now)) ≡ Some Letters) }
-    ensures letters { IfSome result (λ character.
-        letters_from Ascii Letters (take 1 (drop at bytes.now)) ≡ character ∷ []) }
-{
     widths_are_small();
-    if at >= bytes.len() {
-        return None;
-    }
-    let byte = bytes[at];
-    if byte < b' ' || byte > b'~' {
-        return None;
-    }
-    Some(byte as char)
+    followers.make(text);
+    let last = last_of(letters.as_slice());
+    put_graphics(letters, last, &cells[from..], followers, bytes)
 }
 
-/// Whether a character more may be put behind so many others, whatever they are, as the marks tell.
-#[inline(always)]
-fn may_follow(cells: &[Cell], followers: &Followers, at: usize) -> bool
-    ensures cells { result ≡ true → at < length cells.now }
-    ensures plain { result ≡ true → IsPlain (cell_behind cells.now at) }
-    ensures apart { result ≡ true → (text : List ℕ) → AreFollowers text followers.now.marks → (one : ℕ)
-        → AreApart text one (cell_behind cells.now at).character }
+/// Puts as many of the bytes behind the letters as are graphic characters of ASCII that may be put over these cells behind
+/// the last letter, as the marks tell. Says how many.
+#[inline(never)]
+fn put_graphics(
+    letters: &mut LetterRun,
+    last: char,
+    cells: &[Cell],
+    followers: &Followers,
+    bytes: &[u8],
+) -> usize
+    requires { length letters.old.items + length cells.now ≤ LETTERS }
+    ensures put { letters.new.items ≡ letters.old.items ++ take result bytes.now }
+    ensures within { result ≤ length bytes.now }
+    ensures room { result ≤ length cells.now }
+    ensures graphic { (k : ℕ) → k < result → is_graphic (slice_index_or bytes.now k 0) ≡ true }
+    ensures plain { (k : ℕ) → k < result → IsPlain (cell_behind cells.now k) }
+    ensures apart { (text : List ℕ) → AreFollowers text followers.now.marks followers.now.pairs
+        → (k : ℕ) → k < result
+        → AreApart text (slice_index_or (last ∷ bytes.now) k 0) (cell_behind cells.now k).character }
 {
-    at < cells.len() && cells[at].is_plain() && !followers.marks[mark_of(cells[at].character())]
+    let room = cells.len().min(bytes.len());
+    let mut one = last;
+    for at in 0..room {
+        let byte = bytes[at];
+        if !may_follow(followers, one, byte, cells[at]) {
+            return at;
+        }
+        one = byte as char;
+        letters.push(one);
+    }
+    room
+}
+
+/// Whether a byte is a graphic character of ASCII that may be put over a cell behind a letter, as the marks tell.
+#[inline(always)]
+fn may_follow(followers: &Followers, one: char, byte: u8, cell: Cell) -> bool
+    ensures graphic { result ≡ true → is_graphic byte ≡ true }
+    ensures plain { result ≡ true → IsPlain cell }
+    ensures apart { result ≡ true → (text : List ℕ) → AreFollowers text followers.now.marks followers.now.pairs
+        → AreApart text one cell.character }
+{
+    is_graphic(byte) && cell.is_plain() && !followers.may_have(one, cell.character())
+}
+
+/// A graphic character of ASCII.
+#[inline]
+fn is_graphic(byte: u8) -> bool
+    ensures { result ≡ is_graphic byte }
+{
+    matches!(byte, 32..=126)
 }
 
 /// Whether a character more may be put behind these.
 #[inline]
 fn may_go_on(cells: &[Cell], text: &[char], followers: &mut Followers, letters: &[char]) -> bool
-    requires made { followers.old.made ≡ true → AreFollowers text.now followers.old.marks }
+    requires made { followers.old.made ≡ true → AreFollowers text.now followers.old.marks followers.old.pairs }
     ensures cells { result ≡ true → length letters.now < length cells.now }
     ensures plain { result ≡ true → IsPlain (cell_behind cells.now (length letters.now)) }
     ensures apart { result ≡ true → 0 < length letters.now → AreApart text.now
         (slice_index_or letters.now (length letters.now - 1) 0) (cell_behind cells.now (length letters.now)).character }
-    ensures made { followers.new.made ≡ true → AreFollowers text.now followers.new.marks }
+    ensures made { followers.new.made ≡ true → AreFollowers text.now followers.new.marks followers.new.pairs }
 {
     let at = letters.len();
     at < cells.len()
@@ -206,57 +230,86 @@ fn may_go_on(cells: &[Cell], text: &[char], followers: &mut Followers, letters: 
         && (at == 0 || are_apart(text, followers, letters, cells[at].character()))
 }
 
-/// Whether the last of some letters and a character surely aren't neighbours of the text. The marks are asked from the
-/// third letter on.
+/// Whether the last of some letters and a character surely aren't neighbours of the text.
 #[inline]
 fn are_apart(text: &[char], followers: &mut Followers, letters: &[char], other: char) -> bool
     requires some { 0 < length letters.now }
-    requires made { followers.old.made ≡ true → AreFollowers text.now followers.old.marks }
+    requires made { followers.old.made ≡ true → AreFollowers text.now followers.old.marks followers.old.pairs }
     ensures apart { result ≡ true
         → AreApart text.now (slice_index_or letters.now (length letters.now - 1) 0) other }
-    ensures made { followers.new.made ≡ true → AreFollowers text.now followers.new.marks }
+    ensures made { followers.new.made ≡ true → AreFollowers text.now followers.new.marks followers.new.pairs }
 {
-    if letters.len() > 1 {
-        followers.make(text);
-        if !followers.marks[mark_of(other)] {
-            return true;
-        }
-    }
-    !are_neighbours(text, letters[letters.len() - 1], other)
+    followers.make(text);
+    let one = last_of(letters);
+    !followers.may_have(one, other) || !are_neighbours(text, one, other)
 }
 
-/// The mark of a character.
+/// The last of some letters.
 #[inline]
-fn mark_of(character: char) -> usize
-    ensures value { result ≡ character % 64 }
-    ensures below { result < 64 }
+fn last_of(letters: &[char]) -> char
+    requires { 0 < length letters.now }
+    ensures { result ≡ slice_index_or letters.now (length letters.now - 1) 0 }
 {
-    character as usize % MARKS
+    letters[letters.len() - 1]
 }
 
 impl Followers {
     /// Makes the marks, if they aren't yet.
     #[inline]
     fn make(&mut self, text: &[char])
-        requires { self.old.made ≡ true → AreFollowers text.now self.old.marks }
-        ensures { AreFollowers text.now self.new.marks }
+        requires { self.old.made ≡ true → AreFollowers text.now self.old.marks self.old.pairs }
+        ensures { AreFollowers text.now self.new.marks self.new.pairs }
     {
         if !self.made {
-            self.marks = marks_of(text);
+            (self.marks, self.pairs) = marks_of(text);
             self.made = true;
         }
     }
+
+    /// Whether two neighbours of the text may be these, as the marks tell.
+    #[inline(always)]
+    fn may_have(&self, one: char, other: char) -> bool
+        ensures { result ≡ false → (text : List ℕ) → AreFollowers text self.now.marks self.now.pairs
+            → AreApart text one other }
+    {
+        is_marked(self.marks, other as u32) && is_marked(self.pairs, pair(one, other))
+    }
 }
 
-/// Which marks the characters of a text have that come behind its first one.
-fn marks_of(text: &[char]) -> [bool; MARKS]
-    ensures { AreFollowers text.now result }
+/// Which marks the characters of a text have that come behind its first one, and which its pairs of neighbours.
+fn marks_of(text: &[char]) -> (u64, u64)
+    ensures { AreFollowers text.now result.0 result.1 }
 {
-    let mut followers = [false; MARKS];
+    let (mut marks, mut pairs) = (0, 0);
     for at in 1..text.len() {
-        followers[mark_of(text[at])] = true;
+        marks |= mark_of(text[at] as u32);
+        pairs |= mark_of(pair(text[at - 1], text[at]));
     }
-    followers
+    (marks, pairs)
+}
+
+/// The number of a pair of characters.
+#[inline]
+fn pair(one: char, other: char) -> u32
+    ensures { result ≡ one + 2 * other }
+{
+    one as u32 + 2 * other as u32
+}
+
+/// The mark of a number.
+#[inline]
+fn mark_of(number: u32) -> u64
+    ensures { bit_at result (number % 64) ≡ 1 }
+{
+    1 << (number % MARKS)
+}
+
+/// Whether a number has its mark among these.
+#[inline]
+fn is_marked(marks: u64, number: u32) -> bool
+    ensures { bit_at marks (number % 64) ≡ 1 → result ≡ true }
+{
+    marks >> (number % MARKS) & 1 == 1
 }
 
 /// Whether two neighbours of the text are these.

@@ -13,7 +13,7 @@ loop-line-preserved c =
     let columns = c.args.screen.now.picture.columns in
     let after = c.args.screen.now.picture.rows in
     let kept = c.loop-line.invariant in
-    let row = c.catch_up.new.self in
+    let row = c.become_same.new.self in
     let low : 1 ≤ line = omega arith in
     let high : line ≤ length rows = omega (arith, kept.whole, c.requires.rows, c.requires.high) in
     record {
@@ -25,7 +25,7 @@ loop-line-preserved c =
             let long = ap length (sym was ∙ kept.behind line (omega arith)) ∙ ap (λ m. length (row_at c.args.rows.now m)) (sym e) ∙ wide ∙ sym c.row.ensures.columns in
             subst (λ m. Follows columns (row_at (set rows (line - 1) row) m) (row_at after m)) (sym e)
             (subst (λ r. Follows columns r (row_at after line)) (sym (row_set_same rows line row low high))
-            (subst (λ r. Follows columns row r) c.row.ensures.value (subst (λ w. Follows w row c.row.result.now) c.row.ensures.columns (c.catch_up.ensures.caught long))))
+            (subst (λ r. Follows columns row r) c.row.ensures.value (subst (λ w. Follows w row c.row.result.now) c.row.ensures.columns (c.become_same.ensures long))))
         | inr ne ↦
             subst (λ r. Follows columns r (row_at after k)) (sym (row_set_other rows line k row low (omega arith) ne))
             (kept.caught k here (omega (arith, below, ne)) wide)

@@ -3,7 +3,6 @@ use Rattle.std.proofs.lemmas.Bool.{cases_lt}
 use Rattle.sheet.specs.Grid.{row_at}
 use Rattle.xterm_print.specs.ChangeLines.{is_changed, same_row}
 use Rattle.xterm_print.specs.Kept.{Follows}
-use Rattle.xterm_print.proofs.KeptLemmas.{some_differ}
 use Rattle.xterm_print.proofs.TurnedLemmas.{moved_changed, other_changed, row_moved}
 use Rattle.xterm_print.proofs.moved.catch_up_moved.Goals as goal
 
@@ -26,7 +25,7 @@ returns-clause-behind c = 位 k above. c.catch_up_lines.ensures.behind k above 鈭
 pub returns-clause-changed : goal.returns-clause-changed
 returns-clause-changed c = 位 before marked follow so_far.
     let after = c.args.screen.now.picture.rows in
-    let told = marked.move (some_differ before after c.args.line c.args.changed.now.items so_far c.requires.differ) in
+    let told = marked.move (c.requires.differ before (follow c.args.line (omega arith) (omega (arith, c.moved_end-end.ensures.some))) so_far) in
     let origins = c.args.screen.now.origins in
     let columns = c.args.screen.now.picture.columns in
     let kept = c.args.rows.now in
@@ -43,7 +42,7 @@ returns-clause-changed c = 位 before marked follow so_far.
 pub returns-clause-caught : goal.returns-clause-caught
 returns-clause-caught c = 位 before marked follow so_far k low high.
     let after = c.args.screen.now.picture.rows in
-    let told = marked.move (some_differ before after c.args.line c.args.changed.now.items so_far c.requires.differ) in
+    let told = marked.move (c.requires.differ before (follow c.args.line (omega arith) (omega (arith, c.moved_end-end.ensures.some))) so_far) in
     let columns = c.args.screen.now.picture.columns in
     let end = c.moved_end-end.result in
     let shift = c.args.shift in

@@ -11,7 +11,7 @@ invariant-loop-taken l = record {
   styled : styling_behind l.set Letters (take l.taken l.bytes) ≡ Some Letters;
   are : l.letters.items ≡ letters_from l.set Letters (take l.taken l.bytes);
   over : GoOver l.text l.cells l.letters.items;
-  made : l.followers.made ≡ true → AreFollowers l.text l.followers.marks;
+  made : l.followers.made ≡ true → AreFollowers l.text l.followers.marks l.followers.pairs;
 }
 
 abbrev pub decreases-loop-taken : goal.decreases-loop-taken
