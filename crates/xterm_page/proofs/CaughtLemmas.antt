@@ -1,10 +1,11 @@
 -- Rows that become those of the sheet, one line or block after another.
-use Rattle.std.proofs.Common.{◌≡◌, ◌≢◌, ℕ, zero, suc, ◌+◌, ◌-◌, ◌<◌, ◌≤◌, Bool, true, false, List, [], ◌∷◌, ◌++◌, Some, cond, drop, filter, length, get_or, take, ap, sym, ◌∙◌, arith, inl, inr}
+use Rattle.std.proofs.Common.{◌≡◌, ◌≢◌, ℕ, zero, suc, ◌+◌, ◌-◌, ◌<◌, ◌≤◌, Bool, true, false, List, [], ◌∷◌, ◌++◌, Some, cond, drop, filter, length, get_or, take, ap, subst, sym, ◌∙◌, arith, inl, inr, rules}
 use Rattle.std.specs.Prelude.{◌||◌}
-use Rattle.std.specs.List.{flat_map, range_with_len}
+use Rattle.std.specs.List.{RotatedLeft, flat_map, range_with_len}
 use Rattle.std.proofs.lemmas.Bool.{cases_Bool, cases_eq, cases_lt}
-use Rattle.std.proofs.lemmas.List.{drop_more, take-append-drop}
+use Rattle.std.proofs.lemmas.List.{drop_more, places, take-append-drop}
 use Rattle.std.proofs.lemmas.List.Concat.{flat_map-append}
+use borrow.Rule.Slice.PartMut.{mid_of}
 use Rattle.sheet.specs.Cells.{Cell}
 use Rattle.sheet.specs.Grid.{row_at}
 use Rattle.screen_page.specs.Entries.{first_of}
@@ -117,3 +118,24 @@ module _ (changed : List Renewal) (at columns lines : ℕ) (d : Renewal) (origin
         | inr past ↦ other k low high (ap (λ x. holds k (told_lines x)) is ∙ behind_range k block.from count (omega (arith, past, inside.some))) (behind k past)
       ]
     ]
+
+-- ---- rows of which the first come last
+
+module _ (rows part : List (List Cell)) (count : ℕ) (is : part ≡ drop count rows ++ take count rows) where
+  pub about_whole : length part ≡ length rows
+  about_whole =
+      let all : length (drop count rows ++ take count rows) ≡ length rows = search (rules, places) in
+      ap length is ∙ all
+
+  pub about_by_index : count ≤ length rows → RotatedLeft rows part (length rows) count
+  about_by_index within =
+      let turned : List (List Cell) = drop count rows ++ take count rows in
+      let up : (k : ℕ) (d : List Cell) → k + count < length rows → get_or turned k d ≡ get_or rows (k + count) d = λ k d low. grind (arith, places) in
+      let over : (k : ℕ) (d : List Cell) → length rows ≤ k + count → k < length rows → get_or turned k d ≡ get_or rows (k + count - length rows) d =
+      λ k d past low. grind (arith, places) in
+      subst (λ l. RotatedLeft rows l (length rows) count) (sym is) (up, over)
+
+-- how many rows turn
+pub turning : (rows : List (List Cell)) (from to shift : ℕ) → 1 ≤ from → from ≤ to → to + shift ≤ length rows + 1
+    → length (mid_of (from - 1) (to - 1 + shift - (from - 1)) rows) ≡ to - 1 + shift - (from - 1)
+turning rows from to shift low apart high = search (rules, places)

@@ -5,6 +5,7 @@ pub mod StringLemmas
 pub mod UsedLemmas
 pub mod RenewedLemmas
 pub mod CaughtLemmas
+pub mod ComeLemmas
 pub mod MarkLemmas
 pub mod PageLemmas
 pub mod Replays

@@ -1,5 +1,5 @@
 -- Private: the parts of a page in the order in which they are written.
-use Rattle.std.specs.Prelude.{◌≡◌, ℕ, ◌%◌, ◌/◌, ◌<◌, ◌≤◌, Bool, true, false, not, All, IfSome, List, [], ◌∷◌, ◌++◌, ◌&&◌, ◌||◌, ◌==◌, ◌+◌, ◌-◌, Option, Some, None, filter, length, map, if◌then◌else◌, slice_index_or}
+use Rattle.std.specs.Prelude.{◌≡◌, ℕ, ◌%◌, ◌<◌, ◌≤◌, Bool, true, false, not, All, IfSome, List, [], ◌∷◌, ◌++◌, ◌&&◌, ◌||◌, ◌==◌, ◌+◌, ◌-◌, Option, Some, None, filter, length, map, if◌then◌else◌, slice_index_or}
 use Rattle.std.specs.List.{flat_map, range_with_len}
 use Rattle.sheet.specs.Cells.{Cell}
 use Rattle.sheet.specs.Grid.{is_touched, row_at}
@@ -12,7 +12,6 @@ use Rattle.xterm_page.specs.declared.kept.Block.{Block}
 use Rattle.xterm_page.specs.declared.kept.Renewal.{Renewal}
 use Rattle.xterm_page.specs.declared.kept.Renewal.TheVariants.{Line, Moved}
 use Rattle.xterm_page.specs.declared.kept.Renewed.{Renewed}
-use Rattle.xterm_page.specs.declared.moved.Digits.{Digits}
 use Rattle.xterm_page.specs.EntryText.{entry_front, named_text, next_text, size_text}
 use Rattle.xterm_page.specs.Same.{row_number, same_row}
 
@@ -121,10 +120,6 @@ renewed_text after (line, was) = named_text (line, change_by was (row_at after l
 -- what is written of lines from one to before another that came up by so many
 abbrev pub come_text : ℕ → ℕ → ℕ → List ℕ
 come_text from end shift = flat_map (λ line. comma_number line ++ comma_number (line + shift)) (range_with_len from (end - from))
-
--- the two digits of a number below 100, as they are written
-abbrev pub AreDigits : ℕ → Digits → Type 0
-AreDigits number digits = (digits.tens ≡ 48 + number / 10) × (digits.ones ≡ 48 + number % 10)
 
 -- what is written of a line
 unfoldable pub line_text : List ℕ → ℕ → List (List Cell) → List Cell → ℕ → List ℕ

@@ -1,6 +1,6 @@
 //! Rows that are kept of a sheet become those that it shows.
 
-ghost use Rattle.std.specs.Prelude.{◌≡◌, ◌≢◌, ℕ, ◌+◌, ◌-◌, ◌<◌, ◌≤◌, IfSome, length};
+ghost use Rattle.std.specs.Prelude.{◌≡◌, ◌≢◌, ℕ, ◌+◌, ◌-◌, ◌<◌, ◌≤◌, ◌++◌, IfSome, drop, length, take};
 ghost use Rattle.std.specs.List.{flat_map};
 ghost use Rattle.sheet.specs.Grid.{AreMarked as MarksTell, IsUsed, row_at};
 ghost use Rattle.xterm_page.specs.Parts.{AreLines, AreNumbered, AreWide, InSheet, KeptAll, renewed, told};
@@ -94,7 +94,23 @@ fn turn_rows(rows: &mut [KeptRow], from: usize, to: usize, shift: usize)
     ensures behind { (k : ℕ) → to + shift ≤ k → row_at rows.new k ≡ row_at rows.old k }
 {
     let (first, last) = (from - 1, to - 1);
-    rows[first..last + shift].rotate_left(shift);
+    turn_about(&mut rows[first..last + shift], shift);
+}
+
+/// The first so many rows come last. Where they are several three turns about do it: `rotate_left` fills 4 KB of the stack
+/// with zeros first.
+fn turn_about(rows: &mut [KeptRow], count: usize)
+    requires { count ≤ length rows.old }
+    ensures { rows.new ≡ drop count rows.old ++ take count rows.old }
+{
+    if count == 1 {
+        rows.rotate_left(count);
+        return;
+    }
+    let (front, behind) = rows.split_at_mut(count);
+    front.reverse();
+    behind.reverse();
+    rows.reverse();
 }
 
 /// The rows from one line to before another become copies of those so many lines further down.

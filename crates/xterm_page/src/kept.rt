@@ -1,6 +1,6 @@
 //! Rows that are kept of a sheet while the next chunk is played.
 
-ghost use Rattle.std.specs.Prelude.{◌≡◌, ◌+◌, ◌-◌, ◌%◌, ◌<◌, ◌≤◌, ◌∷◌, ◌++◌, IfOk, IfSome, List, None, OnOk, Some, drop, false, if◌then◌else◌, length, true};
+ghost use Rattle.std.specs.Prelude.{◌≡◌, ℕ, ◌+◌, ◌-◌, ◌%◌, ◌<◌, ◌≤◌, ◌∷◌, ◌++◌, IfOk, IfSome, List, None, OnOk, Some, drop, false, if◌then◌else◌, length, true};
 ghost use Rattle.std.specs.List.{flat_map};
 ghost use Rattle.sheet.specs.Cells.{Cell};
 ghost use Rattle.sheet.specs.Grid.{AreMarked as MarksTell, AreTold, IsUsed, is_touched, row_at};
@@ -370,7 +370,7 @@ pub(crate) fn changed_rows(
     let mut shift = rows.len();
     let mut marked = 0;
     let mut marks = [false; MARKS];
-    let mut line = screen.next_touched(1);
+    let mut line = touched_from(screen, 1);
     while line <= screen.lines() {
         let guess = guess_of(screen, line, shift);
         let some = !changed.is_empty();
@@ -383,9 +383,24 @@ pub(crate) fn changed_rows(
             (next, marked) = come_end(rows, screen, next, shift, marked, &mut marks);
             push_renewed(line, next, shift, renewed, screen.lines(), &mut changed)?;
         }
-        line = screen.next_touched(next);
+        line = touched_from(screen, next);
     }
     Ok(changed)
+}
+
+/// The first line from one on that was touched, or one behind the last: mostly the line itself, at which it looks first.
+fn touched_from(screen: &Screen, line: u16) -> u16
+    requires low { 1 ≤ line }
+    requires high { line ≤ screen.now.picture.lines + 1 }
+    ensures low { line ≤ result }
+    ensures high { result ≤ screen.now.picture.lines + 1 }
+    ensures between { (k : ℕ) → line ≤ k → k < result → is_touched screen.now.origins k ≡ false }
+    ensures touched { result ≤ screen.now.picture.lines → is_touched screen.now.origins result ≡ true }
+{
+    if line <= screen.lines() && screen.is_touched(line) {
+        return line;
+    }
+    screen.next_touched(line)
 }
 
 /// Adds a line, and the lines behind it, to before another, that came up by so many: as one block where it did so, too.

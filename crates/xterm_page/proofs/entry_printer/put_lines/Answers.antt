@@ -25,7 +25,7 @@ pub put_block-requires : goal.put_block-requires
 put_block-requires g c =
     let lines = c.args.screen.now.picture.lines in
     let inside = subst (IsWithin lines) c.in-Moved.is (All-get_or (IsWithin lines) c.args.changed.now c.loop-at.at no_line c.loop-at-test.true c.requires) in
-    omega (arith, inside.some)
+    record { low = inside.low; apart = omega (arith, inside.some) }
 
 pub loop-at-preserved : goal.loop-at-preserved
 loop-at-preserved g c =

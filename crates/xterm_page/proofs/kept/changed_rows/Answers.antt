@@ -32,7 +32,7 @@ push_renewed-requires c = record {
 
 pub loop-line-init : goal.loop-line-init
 loop-line-init c =
-    let first = c.next_touched-line.ensures in
+    let first = c.touched_from-line.ensures in
     let lines = c.args.screen.now.picture.lines in
     let after = c.args.screen.now.picture.rows in
     let none = sym c.in_ok-changed.ensures.items in
@@ -41,7 +41,7 @@ loop-line-init c =
       high = first.high;
       touched = first.touched;
       told = λ _. ap (flat_map told) c.in_ok-changed.ensures.items
-          ∙ renewed_none c.args.screen.now.origins lines c.args.rows.now after 1 c.next_touched-line.result (omega arith) first.low first.between;
+          ∙ renewed_none c.args.screen.now.origins lines c.args.rows.now after 1 c.touched_from-line.result (omega arith) first.low first.between;
       lines = subst (AreLines lines) none (All-nil (IsWithin lines));
       numbers = subst (AreNumbered after) none (All-nil (IsNumbered after));
       long = length-replicate 2048 false;
@@ -56,7 +56,7 @@ loop-line-preserved c =
     let origins = c.args.screen.now.origins in
     let lines = c.args.screen.now.picture.lines in
     let kept = c.loop-line.invariant in
-    let next = c.next_touched-line-in-loop-line in
+    let next = c.touched_from-line-in-loop-line in
     let here = is_renewed origins (row_at rows line) (row_at after line) line in
     let old = c.loop-line.changed.items in
     let was = line_of lines rows (row_at after line) in
