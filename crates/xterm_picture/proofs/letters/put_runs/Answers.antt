@@ -1,39 +1,32 @@
-use Rattle.std.proofs.Common.{◌≡◌, ◌<◌, ◌++◌, ◌∙◌, length, true, ap, sym, subst, arith}
+use Rattle.std.proofs.Common.{◌++◌, length, subst, arith}
 use Rattle.tape_core.specs.Devices.{Gave}
 use Rattle.xterm_rows.specs.Runs.{begins}
-use Rattle.xterm_rows.proofs.GroupLemmas.{groups_more, groups_to, next_begins}
+use Rattle.xterm_rows.proofs.GroupLemmas.{groups_to}
 use Rattle.xterm_rows.proofs.RunLemmas.{first_begins}
 use Rattle.xterm_picture.specs.Letters.{run_letters, spans_text}
+use Rattle.xterm_picture.proofs.GroupLemmas.{all_gone, group_gone}
 use Rattle.xterm_picture.proofs.letters.put_runs.Goals as goal
 
 pub loop-at-init : goal.loop-at-init
 loop-at-init g c = record {
   gave = c.gives_join.ensures.nothing c.args.writer.now;
   here = λ _. first_begins c.args.cells.now;
+  low = omega arith;
   high = omega arith;
 }
 
 pub loop-at-preserved : goal.loop-at-preserved
 loop-at-preserved g c =
     let cells = c.args.cells.now in
-    let at = c.loop-at.at in
-    let within = c.loop-at-test.true in
     let text = run_letters c.args.reversed cells in
-    let end = c.run_at-run.ensures.end in
-    let more = groups_more text (begins cells) 0 at (length cells) (omega arith) within (c.loop-at.invariant.here within) in
-    record {
-      gave = subst (Gave g.W.Write.contents c.args.writer.now c.put_spans.new.writer)
-          (ap (λ run. groups_to text (begins cells) 0 at ++ spans_text c.args.reversed cells run) c.run_at-run.ensures.run
-          ∙ sym more ∙ ap (groups_to text (begins cells) 0) (sym end))
-          (c.gives_join.ensures.both _ _ _ _ _ c.put_spans.ensures c.loop-at.invariant.gave);
-      here = λ more. subst (λ n. begins cells n ≡ true) (sym end)
-          (next_begins (begins cells) at (length cells) within (subst (λ n. n < length cells) end more));
-      high = c.run_at-run.ensures.within;
-    }
+    let gone = Gave g.W.Write.contents c.args.writer.now c.put_spans.new.writer in
+    let run = c.run_at-run.ensures in
+    group_gone _ gone text (begins cells) 0 c.loop-at.at (length cells) c.loop-at.invariant c.run_at-run.result.end c.loop-at-test.true run.some run.end
+    (subst (λ r. gone (groups_to text (begins cells) 0 c.loop-at.at ++ spans_text c.args.reversed cells r)) run.run
+    (c.gives_join.ensures.both _ _ _ _ _ c.put_spans.ensures c.loop-at.invariant.gave))
 
 pub returns : goal.returns
 returns g c =
     let cells = c.args.cells.now in
-    let all : c.loop-at.at ≡ length cells = omega (arith, c.loop-at.invariant.high, c.loop-at-test.false) in
-    subst (λ n. Gave g.W.Write.contents c.args.writer.now c.loop-at.writer (groups_to (run_letters c.args.reversed cells) (begins cells) 0 n))
-    all c.loop-at.invariant.gave
+    all_gone (Gave g.W.Write.contents c.args.writer.now c.loop-at.writer) (run_letters c.args.reversed cells) (begins cells) 0 c.loop-at.at (length cells)
+    c.loop-at.invariant c.loop-at-test.false
