@@ -33,7 +33,7 @@ found p a (suc n) k is = elim (cases_Bool (p a)) [
       (rest.0, (omega (arith, rest.1.0), omega (arith, rest.1.1)))
 ]
 
-was_row : (lines : ℕ) (rows : List (List Cell)) (row : List Cell) (from : ℕ) → line_of lines rows row ≡ Some from → row_at rows from ≡ row
+pub was_row : (lines : ℕ) (rows : List (List Cell)) (row : List Cell) (from : ℕ) → line_of lines rows row ≡ Some from → row_at rows from ≡ row
 was_row lines rows row from is =
     rows_equal (row_at rows from) row (found (λ line. same_row (row_at rows line) row) 1 lines from is).0
 

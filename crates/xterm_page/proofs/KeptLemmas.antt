@@ -17,8 +17,8 @@ use Rattle.xterm_term.specs.Seen.{Seen, Shows}
 use Rattle.xterm_term.specs.Term.{play}
 use Rattle.xterm_print.specs.Moments.{reset_as}
 use Rattle.xterm_print.proofs.KeptLemmas.{row_read}
-use Rattle.xterm_page.specs.Entries.{line_of}
-use Rattle.xterm_page.specs.Parts.{AreKept, AreWide, KeptAll, is_renewed}
+use Rattle.xterm_page.specs.Entries.{console_by, line_of}
+use Rattle.xterm_page.specs.Parts.{AreWide, KeptAll, is_renewed}
 use Rattle.xterm_page.specs.Same.{row_number, same_row}
 use Rattle.xterm_page.proofs.EqualLemmas.{lists_equal, rows_equal}
 
@@ -38,7 +38,8 @@ rows_by_line height rows others long long' same =
 
 -- rows of the sheet that a terminal shows are those of what was played
 pub kept_by : SizeStays → (p : Picture) (terminal : Seen) (size : Size) (bytes : List ℕ) (rows : List (List Cell)) → p ≡ terminal.console.picture
-    → Shows terminal (play (reset_as size) bytes) → KeptAll p.lines p.columns rows p.rows → AreKept size rows bytes
+    → Shows terminal (play (reset_as size) bytes) → KeptAll p.lines p.columns rows p.rows
+    → KeptAll size.lines size.columns rows (console_by size.columns size.lines bytes).picture.rows
 kept_by law p terminal size bytes rows is shows kept =
     let same : p ≡ (play (reset_as size) bytes).console.picture = is ∙ sym (ap (λ s. s.picture) shows.console) in
     let stays = law (reset_as size) bytes in

@@ -6,6 +6,7 @@ pub mod UsedLemmas
 pub mod RenewedLemmas
 pub mod CaughtLemmas
 pub mod ComeLemmas
+pub mod DistinctLemmas
 pub mod MarkLemmas
 pub mod PageLemmas
 pub mod Replays

@@ -1,5 +1,5 @@
 -- Private: the parts of a page in the order in which they are written.
-use Rattle.std.specs.Prelude.{◌≡◌, ℕ, ◌%◌, ◌<◌, ◌≤◌, Bool, true, false, not, All, IfSome, List, [], ◌∷◌, ◌++◌, ◌&&◌, ◌||◌, ◌==◌, ◌+◌, ◌-◌, Option, Some, None, filter, length, map, if◌then◌else◌, slice_index_or}
+use Rattle.std.specs.Prelude.{◌≡◌, ◌≢◌, ℕ, ◌%◌, ◌<◌, ◌≤◌, Bool, true, false, not, All, IfSome, List, [], ◌∷◌, ◌++◌, ◌&&◌, ◌||◌, ◌==◌, ◌+◌, ◌-◌, Option, Some, None, filter, length, map, if◌then◌else◌, slice_index_or}
 use Rattle.std.specs.List.{flat_map, range_with_len}
 use Rattle.sheet.specs.Cells.{Cell}
 use Rattle.sheet.specs.Grid.{is_touched, row_at}
@@ -145,7 +145,12 @@ pub record KeptAll (height width : ℕ) (kept others : List (List Cell)) : Type 
   pub rows : kept ≡ others
   pub columns : AreWide height width kept
 
--- they are those of the sheet that is shown once these bytes were played
-abbrev pub AreKept : Size → List (List Cell) → List ℕ → Type 0
-AreKept size rows bytes =
-    KeptAll size.lines size.columns rows (console_by size.columns size.lines bytes).picture.rows
+-- no two of so many first rows are the same
+pub record AreDistinct (rows : List (List Cell)) (count : ℕ) : Type 0 where
+  pub within : count ≤ length rows
+  pub apart : (one other : ℕ) → 1 ≤ one → one < other → other ≤ count → row_at rows one ≢ row_at rows other
+
+-- rows are those of the sheet that is shown once these bytes were played, and so many first ones are distinct
+pub record AreKept (size : Size) (rows : List (List Cell)) (distinct : ℕ) (bytes : List ℕ) : Type 0 where
+  pub all : KeptAll size.lines size.columns rows (console_by size.columns size.lines bytes).picture.rows
+  pub apart : AreDistinct rows distinct

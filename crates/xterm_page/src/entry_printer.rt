@@ -11,7 +11,8 @@ ghost use Rattle.xterm_page.specs.Parts.{AreLines, front_text, renewed, renewed_
 ghost use Rattle.xterm_term.specs.Seen.{Tells};
 
 use crate::caught::catch_up;
-use crate::kept::{KeptRow, Renewal, changed_rows, kept_rows};
+use crate::distinct::distinct_after;
+use crate::kept::{KeptSheet, Renewal, changed_rows, kept_rows};
 use crate::moved::put_block;
 use crate::rows::put_changed;
 use arrayvec::ArrayVec;
@@ -37,11 +38,11 @@ pub(crate) struct EntryPrinter {
 impl Visitor<Terminal> for EntryPrinter {
     ghost use Rattle.xterm_page.specs.Parts.{AreKept, chunk_text};
 
-    type Kept = Vec<KeptRow>;
+    type Kept = KeptSheet;
 
     ghost text = { λ _. chunk_text };
 
-    ghost keeps = { λ size rows bytes. AreKept size rows.items bytes };
+    ghost keeps = { λ size kept bytes. AreKept size kept.rows.items kept.distinct bytes };
 
     ghost takes_none = { ⊥ };
 
@@ -50,25 +51,27 @@ impl Visitor<Terminal> for EntryPrinter {
         Ok(())
     }
 
-    fn keep(&self, terminal: &Terminal) -> Result<Vec<KeptRow>, OutOfMemory> {
+    fn keep(&self, terminal: &Terminal) -> Result<KeptSheet, OutOfMemory> {
         size_stays();
-        Ok(kept_rows(self.alloc, terminal.screen())?)
+        let rows = kept_rows(self.alloc, terminal.screen())?;
+        Ok(KeptSheet { rows, distinct: 0 })
     }
 
     fn visit<W: Write>(
         &self,
         _index: usize,
         due: u64,
-        kept: &mut Vec<KeptRow>,
+        kept: &mut KeptSheet,
         terminal: &Terminal,
         writer: &mut Watched<W>,
     ) -> Result<(), OutOfMemory> {
         size_stays();
         let screen = terminal.screen();
-        if kept.len() == screen.lines() as usize {
-            let changed = changed_rows(self.alloc, kept.as_slice(), screen)?;
+        if kept.rows.len() == screen.lines() as usize {
+            let changed = changed_rows(self.alloc, kept.rows.as_slice(), kept.distinct, screen)?;
             put_entry(due, changed.as_slice(), terminal, writer);
-            catch_up(kept.as_mut_slice(), changed.as_slice(), screen);
+            catch_up(kept.rows.as_mut_slice(), changed.as_slice(), screen);
+            kept.distinct = distinct_after(changed.as_slice(), kept.distinct);
         }
         Ok(())
     }

@@ -5,9 +5,10 @@ ghost use Rattle.std.specs.List.{flat_map};
 ghost use Rattle.sheet.specs.Cells.{Cell};
 ghost use Rattle.sheet.specs.Grid.{AreMarked as MarksTell, AreTold, IsUsed, is_touched, row_at};
 ghost use Rattle.xterm_page.specs.Entries.{line_of};
-ghost use Rattle.xterm_page.specs.Parts.{AreLines, AreMarked, AreNumbered, CameUp, KeptAll, come_told, is_renewed, renewed, told, told_of};
+ghost use Rattle.xterm_page.specs.Parts.{AreDistinct, AreLines, AreMarked, AreNumbered, CameUp, KeptAll, come_told, is_renewed, renewed, told, told_of};
 ghost use Rattle.xterm_page.specs.Same.{row_number, same_row};
 
+use crate::distinct::distinct_end;
 use crate::same::row_number;
 use sheet::Cell;
 use std::alloc::{AllocError, Global};
@@ -119,6 +120,13 @@ impl KeptRow {
     }
 }
 
+/// A copy of the rows of a sheet, and of how many of the first ones it is known that no two are the same.
+#[derive(Drop)]
+pub(crate) struct KeptSheet {
+    pub(crate) rows: Vec<KeptRow>,
+    pub(crate) distinct: usize,
+}
+
 /// A copy of the rows of the sheet that is shown.
 pub(crate) fn kept_rows(alloc: Global, screen: &Screen) -> Result<Vec<KeptRow>, AllocError>
     ensures { IfOk result (λ rows. KeptAll screen.now.picture.lines screen.now.picture.columns
@@ -188,19 +196,19 @@ fn mark_of(number: u64) -> usize
     (number % MARKS as u64) as usize
 }
 
-/// Marks the numbers of the rows before a place, where those of the first rows are marked; tells how many are then.
-fn mark_to(rows: &[KeptRow], marked: usize, place: usize, marks: &mut [bool; MARKS]) -> usize
-    requires { AreMarked rows.now marked marks.old }
-    ensures { AreMarked rows.now result marks.new }
+/// Marks the numbers of the rows before a place, where those of so many first rows are marked.
+fn mark_to(rows: &[KeptRow], place: usize, marked: &mut usize, marks: &mut [bool; MARKS])
+    requires { AreMarked rows.now marked.old marks.old }
+    ensures { AreMarked rows.now marked.new marks.new }
 {
-    if rows.len() < place || place < marked {
-        return marked;
+    if rows.len() < place || place < *marked {
+        return;
     }
-    for at in marked..place {
+    for at in *marked..place {
         let row = &rows[at];
         marks[mark_of(row.number)] = true;
     }
-    place
+    *marked = place;
 }
 
 /// What is known of a line that was touched if it differs from the row that was kept of it, by a guess behind how many
@@ -212,14 +220,15 @@ fn renewed_line(
     line: u16,
     guess: usize,
     some: bool,
-    marked: usize,
-    marks: &[bool; MARKS],
+    marked: &mut usize,
+    marks: &mut [bool; MARKS],
 ) -> Option<Renewed>
     requires low { 1 ≤ line }
     requires high { line ≤ screen.now.picture.lines }
     requires touched { is_touched screen.now.origins line ≡ true }
     requires rows { length rows.now ≡ screen.now.picture.lines }
-    requires marked { AreMarked rows.now marked marks.now }
+    requires marked { AreMarked rows.now marked.old marks.old }
+    ensures marked { AreMarked rows.now marked.new marks.new }
     ensures told { MarksTell rows.now screen.now.origins screen.now.picture.rows
         → (some ≡ true → screen.now.picture.rows ≡ rows.now → ⊥) → told_of result ≡ (if is_renewed screen.now.origins (row_at rows.now line)
         (row_at screen.now.picture.rows line) line
@@ -336,13 +345,20 @@ fn renewed_of(rows: &[KeptRow], cells: &[Cell], used: usize) -> Renewed
 
 /// The first line that was the row behind so many lines. Where its number has no mark, none of the first rows is the
 /// same.
-fn line_at(rows: &[KeptRow], place: usize, marked: usize, marks: &[bool; MARKS]) -> Option<usize>
+fn line_at(
+    rows: &[KeptRow],
+    place: usize,
+    marked: &mut usize,
+    marks: &mut [bool; MARKS],
+) -> Option<usize>
     requires within { place < length rows.now }
-    requires marked { AreMarked rows.now marked marks.now }
-    ensures { result ≡ line_of (length rows.now) rows.now (row_at rows.now (place + 1)) }
+    requires marked { AreMarked rows.now marked.old marks.old }
+    ensures line { result ≡ line_of (length rows.now) rows.now (row_at rows.now (place + 1)) }
+    ensures marked { AreMarked rows.now marked.new marks.new }
 {
+    mark_to(rows, place, marked, marks);
     let row = &rows[place];
-    if place <= marked && !marks[mark_of(row.number)] {
+    if place <= *marked && !marks[mark_of(row.number)] {
         return Some(place + 1);
     }
     match line_of(rows, place, row.cells.as_slice(), row.used, row.number) {
@@ -356,10 +372,12 @@ fn line_at(rows: &[KeptRow], place: usize, marked: usize, marks: &[bool; MARKS])
 pub(crate) fn changed_rows(
     alloc: Global,
     rows: &[KeptRow],
+    distinct: usize,
     screen: &Screen,
 ) -> Result<Vec<Renewal>, AllocError>
     requires { length rows.now ≡ screen.now.picture.lines }
     ensures changed { IfOk result (λ changed. MarksTell rows.now screen.now.origins screen.now.picture.rows
+        → AreDistinct rows.now distinct
         → flat_map told changed.items ≡ renewed screen.now.origins screen.now.picture.lines rows.now
         screen.now.picture.rows) }
     ensures lines { IfOk result (λ changed. AreLines screen.now.picture.lines changed.items) }
@@ -368,19 +386,17 @@ pub(crate) fn changed_rows(
     let mut changed = Vec::with_capacity(alloc, screen.lines() as usize)?;
     // No row has moved yet: the guess lies outside the sheet.
     let mut shift = rows.len();
-    let mut marked = 0;
-    let mut marks = [false; MARKS];
+    let (mut marked, mut marks) = (0, [false; MARKS]);
     let mut line = touched_from(screen, 1);
     while line <= screen.lines() {
         let guess = guess_of(screen, line, shift);
         let some = !changed.is_empty();
         let mut next = line + 1;
-        if let Some(renewed) = renewed_line(rows, screen, line, guess, some, marked, &marks) {
-            shift = shift_by(rows, renewed, line, guess, shift);
+        let renewed = renewed_line(rows, screen, line, guess, some, &mut marked, &mut marks);
+        if let Some(renewed) = renewed {
             // Behind as many lines the next row is looked for.
-            let place = (line as usize).wrapping_add(shift);
-            marked = mark_to(rows, marked, place, &mut marks);
-            (next, marked) = come_end(rows, screen, next, shift, marked, &mut marks);
+            shift = shift_by(rows, renewed, line, guess, shift);
+            next = come_end(rows, distinct, screen, next, shift, &mut marked, &mut marks);
             push_renewed(line, next, shift, renewed, screen.lines(), &mut changed)?;
         }
         line = touched_from(screen, next);
@@ -470,40 +486,79 @@ fn has_come_by(renewed: Renewed, line: u16, shift: usize, lines: u16) -> bool
 }
 
 /// Where the lines end, from one on, whose rows came up by as many lines, if the sheet tells so, as long as they differ and
-/// no row above was the same; and how many rows are marked then. Some row is another one.
+/// no row above was the same: so it is among rows that are known to be distinct, and marks tell it of those behind them.
+/// Some row is another one.
 fn come_end(
+    rows: &[KeptRow],
+    distinct: usize,
+    screen: &Screen,
+    from: u16,
+    shift: usize,
+    marked: &mut usize,
+    marks: &mut [bool; MARKS],
+) -> u16
+    requires low { 1 ≤ from }
+    requires high { from ≤ screen.now.picture.lines + 1 }
+    requires rows { length rows.now ≡ screen.now.picture.lines }
+    requires marked { AreMarked rows.now marked.old marks.old }
+    ensures low { from ≤ result }
+    ensures high { result ≤ screen.now.picture.lines + 1 }
+    ensures within { from < result → (1 ≤ shift)
+        × (result + shift ≤ screen.now.picture.lines + 1) }
+    ensures marked { AreMarked rows.now marked.new marks.new }
+    ensures come { AreTold rows.now screen.now.origins screen.now.picture.rows
+        → AreDistinct rows.now distinct
+        → CameUp screen.now.origins screen.now.picture.lines rows.now screen.now.picture.rows
+        from result shift }
+{
+    if shift == 0 || rows.len() < shift {
+        return from;
+    }
+    let end = distinct_end(screen, from, shift, distinct);
+    marked_end(rows, screen, end, shift, marked, marks)
+}
+
+/// The same by marks alone. They are made where the first of the lines came up by as many.
+fn marked_end(
     rows: &[KeptRow],
     screen: &Screen,
     from: u16,
     shift: usize,
-    marked: usize,
+    marked: &mut usize,
     marks: &mut [bool; MARKS],
-) -> (u16, usize)
+) -> u16
     requires low { 1 ≤ from }
     requires high { from ≤ screen.now.picture.lines + 1 }
+    requires some { 1 ≤ shift }
+    requires within { shift ≤ length rows.now }
     requires rows { length rows.now ≡ screen.now.picture.lines }
-    requires marked { AreMarked rows.now marked marks.old }
-    ensures low { from ≤ result.0 }
-    ensures high { result.0 ≤ screen.now.picture.lines + 1 }
-    ensures within { from < result.0 → (1 ≤ shift)
-        × (result.0 + shift ≤ screen.now.picture.lines + 1) }
-    ensures marked { AreMarked rows.now result.1 marks.new }
+    requires marked { AreMarked rows.now marked.old marks.old }
+    ensures low { from ≤ result }
+    ensures high { result ≤ screen.now.picture.lines + 1 }
+    ensures within { from < result → result + shift ≤ screen.now.picture.lines + 1 }
+    ensures marked { AreMarked rows.now marked.new marks.new }
     ensures come { AreTold rows.now screen.now.origins screen.now.picture.rows
         → CameUp screen.now.origins screen.now.picture.lines rows.now screen.now.picture.rows
-        from result.0 shift }
+        from result shift }
 {
-    if shift == 0 || rows.len() < shift || marked != from as usize - 1 + shift {
-        return (from, marked);
-    }
     // Behind this line no row can have come up by as many.
     let last = screen.lines() as usize - shift;
+    let place = from as usize - 1 + shift;
+    if from as usize > last || screen.origin(from) as usize != place + 1 {
+        return from;
+    }
+    mark_to(rows, place, marked, marks);
+    if *marked != place {
+        return from;
+    }
     let mut end = from;
     while end as usize <= last && comes_first(rows, screen, end, shift, marks) {
         let came = &rows[end as usize - 1 + shift];
         marks[mark_of(came.number)] = true;
         end += 1;
     }
-    (end, end as usize - 1 + shift)
+    *marked = end as usize - 1 + shift;
+    end
 }
 
 /// Whether the sheet tells that the row of a line came up by so many lines, while the one that was kept of the line has

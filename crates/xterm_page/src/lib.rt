@@ -2,6 +2,7 @@
 #![tactic(auto)]
 
 mod caught;
+mod distinct;
 mod entry_printer;
 mod kept;
 pub mod laws;

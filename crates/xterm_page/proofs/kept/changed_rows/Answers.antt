@@ -7,27 +7,27 @@ use Rattle.std.proofs.lemmas.List.Elements.{All-nil}
 use Rattle.std.proofs.lemmas.Option.{cond_some}
 use Rattle.sheet.specs.Grid.{AreMarked as MarksTell, row_at}
 use Rattle.xterm_page.specs.Entries.{line_of}
-use Rattle.xterm_page.specs.Parts.{AreLines, AreNumbered, IsNumbered, IsWithin, is_renewed, renewed_to, told, told_of}
+use Rattle.xterm_page.specs.Parts.{AreDistinct, AreLines, AreNumbered, IsNumbered, IsWithin, is_renewed, renewed_to, told, told_of}
 use Rattle.xterm_page.specs.Same.{row_number}
 use Rattle.xterm_page.specs.declared.kept.Renewed.{Renewed}
 use Rattle.xterm_page.proofs.RenewedLemmas.{renewed_apart, renewed_more, renewed_none, renewed_pushed, some_renewed, some_told, told_none}
 use Rattle.xterm_page.proofs.kept.changed_rows.Goals as goal
 use Rattle.xterm_page.proofs.kept.changed_rows.Goals.{in-Some+in_ok-push_renewed, in_default}
 
-pub come_end-requires : goal.come_end-requires
-come_end-requires c = record {
+pub come_end-next-requires : goal.come_end-next-requires
+come_end-next-requires c = record {
   low = omega arith;
   high = omega (arith, c.lines-in-loop-line.ensures.value);
   rows = c.requires;
-  marked = c.mark_to-marked.ensures;
+  marked = c.renewed_line-renewed.ensures.marked;
 }
 
 pub push_renewed-requires : goal.push_renewed-requires
 push_renewed-requires c = record {
   low = c.loop-line.invariant.low;
   high = omega arith;
-  apart = omega (arith, c.come_end.ensures.low);
-  come = λ more. (let come = c.come_end.ensures.within more in (come.0, omega (arith, come.1)));
+  apart = omega (arith, c.come_end-next.ensures.low);
+  come = λ more. (let come = c.come_end-next.ensures.within more in (come.0, omega (arith, come.1)));
 }
 
 pub loop-line-init : goal.loop-line-init
@@ -40,7 +40,7 @@ loop-line-init c =
       low = first.low;
       high = first.high;
       touched = first.touched;
-      told = λ _. ap (flat_map told) c.in_ok-changed.ensures.items
+      told = λ _ _. ap (flat_map told) c.in_ok-changed.ensures.items
           ∙ renewed_none c.args.screen.now.origins lines c.args.rows.now after 1 c.touched_from-line.result (omega arith) first.low first.between;
       lines = subst (AreLines lines) none (All-nil (IsWithin lines));
       numbers = subst (AreNumbered after) none (All-nil (IsNumbered after));
@@ -64,12 +64,12 @@ loop-line-preserved c =
     let nonempty : not c.is_empty-some.result ≡ true → 0 < length old = λ some.
     let apart : count ≢ 0 = λ e. false≢true (sym (sym c.is_empty-some.ensures ∙ not-true c.is_empty-some.result some) ∙ (Decides-eqb count 0).1 e) in
     omega (arith, apart, c.loop-line.changed.ok.0) in
-    let known : MarksTell rows origins after → told_of c.renewed_line.result ≡ (if here then Some was else None) = λ marks.
-    c.renewed_line.ensures.told marks (λ some.
-    some_renewed origins lines rows after (line - 1) (flat_map told old) (kept.told marks) (some_told lines old kept.lines (nonempty some))) in
-    let n = c.match-renewed_line.next in
-    let low : line + 1 ≤ n = elim c.match-renewed_line.branch [
-      | in-Some+in_ok-push_renewed w ↦ rw w.next-is w.come_end.ensures.low
+    let known : MarksTell rows origins after → AreDistinct rows c.args.distinct → told_of c.renewed_line-renewed.result ≡ (if here then Some was else None) = λ marks apart.
+    c.renewed_line-renewed.ensures.told marks (λ some.
+    some_renewed origins lines rows after (line - 1) (flat_map told old) (kept.told marks apart) (some_told lines old kept.lines (nonempty some))) in
+    let n = c.match-renewed.next in
+    let low : line + 1 ≤ n = elim c.match-renewed.branch [
+      | in-Some+in_ok-push_renewed w ↦ rw w.next-is w.come_end-next.ensures.low
       | in_default w ↦ rw w.next-is (omega arith)
     ] in
     let passed = renewed_none origins lines rows after n next.result (omega (arith, low)) next.ensures.low next.ensures.between in
@@ -77,36 +77,36 @@ loop-line-preserved c =
       low = omega (arith, low, next.ensures.low);
       high = next.ensures.high;
       touched = next.ensures.touched;
-      told = λ marks. (elim c.match-renewed_line.branch [
+      told = λ marks apart. (elim c.match-renewed.branch [
         | in-Some+in_ok-push_renewed w ↦
             let r = w.in-Some.renewed in
-            let is = cond_some here was r.was (sym (known marks) ∙ ap told_of w.in-Some.is) in
+            let is = cond_some here was r.was (sym (known marks apart) ∙ ap told_of w.in-Some.is) in
             let tells = marks.move (renewed_apart origins rows after line is.0) in
-            rw (w.changed-is, w.next-is) (renewed_pushed origins lines rows after line w.come_end.result.0 w.shift_by-shift.result r.was (flat_map told old) (flat_map told w.push_renewed.new.changed.items)
-            kept.low (omega (arith, w.come_end.ensures.low)) is.0 is.1 (w.come_end.ensures.come tells) (kept.told marks) w.in_ok-push_renewed.ensures.told)
+            rw (w.changed-is, w.next-is) (renewed_pushed origins lines rows after line w.come_end-next.result w.shift_by-shift.result r.was (flat_map told old) (flat_map told w.push_renewed.new.changed.items)
+            kept.low (omega (arith, w.come_end-next.ensures.low)) is.0 is.1 (w.come_end-next.ensures.come tells apart) (kept.told marks apart) w.in_ok-push_renewed.ensures.told)
         | in_default w ↦
             rw (w.changed-is, w.next-is) (renewed_more origins lines rows after line false (flat_map told old) (flat_map told old) kept.low
-            (sym (told_none c.renewed_line.result here was w.in_default.not-Some (known marks))) (kept.told marks) (sym (append-nil (flat_map told old))))
+            (sym (told_none c.renewed_line-renewed.result here was w.in_default.not-Some (known marks apart))) (kept.told marks apart) (sym (append-nil (flat_map told old))))
       ]) ∙ passed;
-      lines = elim c.match-renewed_line.branch [
+      lines = elim c.match-renewed.branch [
         | in-Some+in_ok-push_renewed w ↦ rw w.changed-is (subst (λ m. AreLines m w.push_renewed.new.changed.items) w.lines-in-Some.ensures.value
             (w.in_ok-push_renewed.ensures.lines (subst (λ m. AreLines m old) (sym w.lines-in-Some.ensures.value) kept.lines)))
         | in_default w ↦ rw w.changed-is kept.lines
       ];
-      numbers = elim c.match-renewed_line.branch [
+      numbers = elim c.match-renewed.branch [
         | in-Some+in_ok-push_renewed w ↦
             let number = subst (λ (o : Option Renewed). IfSome o (λ renewed. IfSome renewed.number (λ number. number ≡ row_number (row_at after line))))
-            w.in-Some.is c.renewed_line.ensures.number in
+            w.in-Some.is c.renewed_line-renewed.ensures.number in
             rw w.changed-is (w.in_ok-push_renewed.ensures.numbers after number kept.numbers)
         | in_default w ↦ rw w.changed-is kept.numbers
       ];
-      long = elim c.match-renewed_line.branch [
-        | in-Some+in_ok-push_renewed w ↦ rw w.marks-is w.come_end.array_long
-        | in_default w ↦ rw w.marks-is kept.long
+      long = elim c.match-renewed.branch [
+        | in-Some+in_ok-push_renewed w ↦ rw w.marks-is w.come_end-next.array_long
+        | in_default w ↦ rw w.marks-is c.renewed_line-renewed.array_long
       ];
-      marked = elim c.match-renewed_line.branch [
-        | in-Some+in_ok-push_renewed w ↦ rw (w.marked-is, w.marks-is) w.come_end.ensures.marked
-        | in_default w ↦ rw (w.marked-is, w.marks-is) kept.marked
+      marked = elim c.match-renewed.branch [
+        | in-Some+in_ok-push_renewed w ↦ rw (w.marked-is, w.marks-is) w.come_end-next.ensures.marked
+        | in_default w ↦ rw (w.marked-is, w.marks-is) c.renewed_line-renewed.ensures.marked
       ];
     }
 
@@ -120,7 +120,7 @@ returns c =
     omega (arith, c.lines.ensures.value, c.loop-line-test.false, c.loop-line.invariant.high) in
     let kept = c.loop-line.invariant in
     record {
-      changed = λ marks. kept.told marks ∙ ap (λ n. renewed_to n origins lines rows after) all;
+      changed = λ marks apart. kept.told marks apart ∙ ap (λ n. renewed_to n origins lines rows after) all;
       lines = kept.lines;
       numbers = kept.numbers;
     }

@@ -22,8 +22,8 @@ line_of-requires c = record {
   used = subst (λ (r : List Cell). IsUsed r c.row.inside.used) (sym c.as_slice.ensures.value) c.row.invariant.used;
 }
 
-pub returns-in-Some : goal.returns-in-Some
-returns-in-Some c =
+pub returns-in-Some-clause-line : goal.returns-in-Some-clause-line
+returns-in-Some-clause-line c =
     let rows = c.args.rows.now in
     let place = c.args.place in
     let own = row_at rows (place + 1) in
@@ -31,8 +31,8 @@ returns-in-Some c =
     sym (line_or rows own place c.requires.within (row_itself own)
     ∙ ap (λ (o : Option ℕ). Some (or_line o (place + 1))) (ap (line_of place rows) (sym is) ∙ sym c.line_of.ensures ∙ c.in-Some.is))
 
-pub returns-in-None : goal.returns-in-None
-returns-in-None c =
+pub returns-in-None-clause-line : goal.returns-in-None-clause-line
+returns-in-None-clause-line c =
     let rows = c.args.rows.now in
     let place = c.args.place in
     let own = row_at rows (place + 1) in
@@ -40,13 +40,13 @@ returns-in-None c =
     sym (line_or rows own place c.requires.within (row_itself own)
     ∙ ap (λ (o : Option ℕ). Some (or_line o (place + 1))) (ap (line_of place rows) (sym is) ∙ sym c.line_of.ensures ∙ c.in-None.is))
 
-pub returns-then-not-marks-mark_of : goal.returns-then-not-marks-mark_of
-returns-then-not-marks-mark_of c =
+pub returns-then-not-marks-mark_of-clause-line : goal.returns-then-not-marks-mark_of-clause-line
+returns-then-not-marks-mark_of-clause-line c =
     let rows = c.args.rows.now in
     let place = c.args.place in
-    let marks = c.args.marks.now in
+    let marks = c.mark_to.new.marks in
     let own = row_at rows (place + 1) in
     let number = c.row.invariant.number
     ∙ ap row_number (c.row.view_is ∙ sym (read rows place c.index-rows-place.result (omega (arith, c.requires.within)) c.index-rows-place.is)) in
     let none : get_or marks (c.row.inside.number % 2048) false ≡ false = ap (λ n. get_or marks n false) (sym c.mark_of.ensures.value) ∙ c.if-not-marks-mark_of.true in
-    sym (first_by_mark rows own place c.args.marked c.row.inside.number marks c.requires.within (row_itself own) number c.requires.marked c.if-place-marked.true none)
+    sym (first_by_mark rows own place c.mark_to.new.marked c.row.inside.number marks c.requires.within (row_itself own) number c.mark_to.ensures c.if-place-marked.true none)

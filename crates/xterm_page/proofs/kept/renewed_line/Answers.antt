@@ -31,7 +31,7 @@ returns-then-has_come-clause-told c = λ marks known.
       | inr f ↦ renewed_apart origins rows after line (ap (λ r. is_renewed origins r (row_at after line) line) (sym was) ∙ c.some_differs.ensures.some c.if-not-some_differs.false f)
     ] in
     let tells = marks.move apart in
-    rw (c.has_come.ensures.renewed tells c.if-has_come.true) (ap Some (c.line_at.ensures
+    rw (c.has_come.ensures.renewed tells c.if-has_come.true) (ap Some (c.line_at.ensures.line
     ∙ ap (λ n. line_of n rows (row_at rows (c.args.guess + 1))) c.requires.rows
     ∙ ap (line_of c.args.screen.now.picture.lines rows) (sym (c.has_come.ensures.same tells c.if-has_come.true))))
 
@@ -55,7 +55,7 @@ returns-then-has_moved-clause-told c = λ _ _.
     let rows = c.args.rows.now in
     let now = row_at c.args.screen.now.picture.rows c.args.line in
     let there = rows_equal (row_at rows (c.args.guess + 1)) now (c.has_moved.ensures.same c.if-has_moved.true) in
-    rw (c.has_moved.ensures.renewed c.if-has_moved.true) (ap Some (c.line_at-then-has_moved.ensures ∙ ap (λ n. line_of n rows (row_at rows (c.args.guess + 1))) c.requires.rows
+    rw (c.has_moved.ensures.renewed c.if-has_moved.true) (ap Some (c.line_at-then-has_moved.ensures.line ∙ ap (λ n. line_of n rows (row_at rows (c.args.guess + 1))) c.requires.rows
     ∙ ap (line_of c.args.screen.now.picture.lines rows) there))
 
 pub returns-then-has_moved-clause-number : goal.returns-then-has_moved-clause-number

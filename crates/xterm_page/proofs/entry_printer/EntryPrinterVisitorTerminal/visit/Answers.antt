@@ -8,7 +8,7 @@ use Rattle.xterm_term.specs.Console.{Console}
 use Rattle.xterm_print.proofs.ShownLemmas.{written_back}
 use Rattle.xterm_page.specs.Entries.{console_by, entry_of}
 use Rattle.xterm_page.specs.EntryText.{next_text}
-use Rattle.xterm_page.specs.Parts.{AreKept, AreLines, AreNumbered, AreWide, renewed, told}
+use Rattle.xterm_page.specs.Parts.{AreDistinct, AreLines, AreNumbered, AreWide, KeptAll, renewed, told}
 use Rattle.xterm_page.proofs.KeptLemmas.{kept_by, wide_by}
 use Rattle.xterm_page.proofs.entry_printer.EntryPrinterVisitorTerminal.visit.Goals as goal
 
@@ -32,13 +32,13 @@ catch_up-requires g c =
 pub returns-in_ok-changed-clause-gave : goal.returns-in_ok-changed-clause-gave
 returns-in_ok-changed-clause-gave g c = λ profile before after are shows tells.
     let p = c.screen-screen.result.now.picture in
-    let was = c.as_slice.ensures.value ∙ are.rows in
+    let was = c.as_slice.ensures.value ∙ are.all.rows in
     let old_rows = (console_by profile.columns profile.lines before).picture.rows in
     let marks : MarksTell c.as_slice.result.now c.screen-screen.result.now.origins p.rows =
     subst (λ (rows : List (List Cell)). MarksTell rows c.screen-screen.result.now.origins p.rows) (sym was)
     (subst (λ (q : Picture). MarksTell old_rows c.screen-screen.result.now.origins q.rows) (sym c.screen-screen.ensures.value)
     (subst (λ (t : List ℕ). MarksTell old_rows t c.args.terminal.now.console.picture.rows) (sym c.screen-screen.ensures.touched) tells)) in
-    let changed = ap (flat_map told) c.as_slice-then-len-lines.ensures.value ∙ c.in_ok-changed.ensures.changed marks
+    let changed = ap (flat_map told) c.as_slice-then-len-lines.ensures.value ∙ c.in_ok-changed.ensures.changed marks (subst (λ rows. AreDistinct rows c.args.kept.now.distinct) (sym c.as_slice.ensures.value) are.apart)
     ∙ ap (λ (rows : List (List Cell)). renewed c.screen-screen.result.now.origins p.lines rows p.rows) was
     ∙ ap₂ (λ (t : List ℕ) (q : Picture). renewed t q.lines old_rows q.rows) c.screen-screen.ensures.touched c.screen-screen.ensures.value in
     subst (Gave g.W.Write.contents c.args.writer.now c.put_entry.new.writer)
@@ -51,21 +51,33 @@ returns-in_ok-changed-clause-keeps g c = λ profile before after are shows tells
     let is = c.screen-screen.ensures.value in
     let new = c.catch_up.new.rows in
     let law = c.size_stays.ensures in
-    let was = c.as_mut_slice.ensures.value ∙ are.rows in
+    let was = c.as_mut_slice.ensures.value ∙ are.all.rows in
     let old_rows = (console_by profile.columns profile.lines before).picture.rows in
     let marks : MarksTell c.as_mut_slice.result.now c.screen-screen.result.now.origins p.rows =
     subst (λ (rows : List (List Cell)). MarksTell rows c.screen-screen.result.now.origins p.rows) (sym was)
     (subst (λ (q : Picture). MarksTell old_rows c.screen-screen.result.now.origins q.rows) (sym is)
     (subst (λ (t : List ℕ). MarksTell old_rows t c.args.terminal.now.console.picture.rows) (sym c.screen-screen.ensures.touched) tells)) in
     let wide = wide_by law p c.args.terminal.now profile after c.as_mut_slice.result.now is shows
-    (subst (λ rows. AreWide profile.lines profile.columns rows) (sym c.as_mut_slice.ensures.value) are.columns) in
+    (subst (λ rows. AreWide profile.lines profile.columns rows) (sym c.as_mut_slice.ensures.value) are.all.columns) in
     let copied = c.as_slice.ensures.value ∙ sym c.as_mut_slice.ensures.value in
     let changed = ap (flat_map told) c.as_slice-then-len-lines-2.ensures.value
     ∙ c.in_ok-changed.ensures.changed (subst (λ (rows : List (List Cell)). MarksTell rows c.screen-screen.result.now.origins p.rows) (sym copied) marks)
+    (subst (λ rows. AreDistinct rows c.args.kept.now.distinct) (sym c.as_slice.ensures.value) are.apart)
     ∙ ap (λ (rows : List (List Cell)). renewed c.screen-screen.result.now.origins p.lines rows p.rows) copied in
     let kept = c.catch_up.ensures wide marks changed in
     let follows = kept_by law p c.args.terminal.now profile after new is shows kept in
     let long = c.as_mut_slice.ensures.len in
-    let old : length c.args.kept.now.items ≡ c.args.kept.now.len = sym (ap length c.as_mut_slice.ensures.value) ∙ long in
-    let same = follows.lines ∙ sym are.lines ∙ old in
-    subst (λ rows. AreKept profile rows after) (written_back c.args.kept.now.len new c.args.kept.now.items same old) follows
+    let rows = c.args.kept.now.rows in
+    let old : length rows.items ≡ rows.len = sym (ap length c.as_mut_slice.ensures.value) ∙ long in
+    let same = follows.lines ∙ sym are.all.lines ∙ old in
+    let listed = c.as_slice-then-len-lines-3.ensures.value in
+    let apart = c.distinct_after-kept.ensures c.screen-screen.result.now.origins p.lines c.as_mut_slice.result.now p.rows marks
+    (omega (arith, c.as_mut_slice.ensures.len, c.len.ensures, c.if-len-lines.true, c.lines.ensures.value)) (ap length (sym kept.rows) ∙ kept.lines)
+    (subst (AreLines p.lines) (sym listed) c.in_ok-changed.ensures.lines)
+    (ap (flat_map told) (listed ∙ sym c.as_slice-then-len-lines-2.ensures.value) ∙ changed)
+    (subst (λ rows. AreDistinct rows c.args.kept.now.distinct) (sym c.as_mut_slice.ensures.value) are.apart) in
+    let back = written_back rows.len new rows.items same old in
+    record {
+      all = subst (λ rows. KeptAll profile.lines profile.columns rows (console_by profile.columns profile.lines after).picture.rows) back follows;
+      apart = subst (λ rows. AreDistinct rows c.distinct_after-kept.result) (sym kept.rows ∙ back) apart;
+    }

@@ -1,7 +1,7 @@
 use Rattle.std.proofs.Common.{◌≡◌, ◌+◌, ◌-◌, ◌≤◌, ◌<◌, length}
 use Rattle.sheet.specs.Grid.{AreTold}
 use Rattle.xterm_page.specs.Parts.{AreMarked, CameUp}
-use Rattle.xterm_page.proofs.kept.come_end.Given as goal
+use Rattle.xterm_page.proofs.kept.marked_end.Given as goal
 
 -- the lines so far came up, and the numbers of the rows above the next one are marked
 abbrev pub invariant-loop-end : goal.invariant-loop-end
